@@ -1,0 +1,12 @@
+pub mod Text
+pub mod Bytes
+pub mod Integers
+pub mod Uris
+pub mod Header
+pub mod Register
+pub mod Cases
+pub mod BytesLaws
+pub mod IntegerLaws
+pub mod UriLaws
+pub mod HeaderLaws
+pub mod RegisterLaws
