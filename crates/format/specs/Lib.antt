@@ -4,9 +4,15 @@ pub mod Integers
 pub mod Uris
 pub mod Header
 pub mod Register
+pub mod Records
+pub mod Reading
+pub mod Calls
+pub mod Series
 pub mod Cases
 pub mod BytesLaws
 pub mod IntegerLaws
 pub mod UriLaws
 pub mod HeaderLaws
 pub mod RegisterLaws
+pub mod Order
+pub mod Demand3
