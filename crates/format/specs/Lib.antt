@@ -8,6 +8,12 @@ pub mod Records
 pub mod Reading
 pub mod Calls
 pub mod Series
+pub mod Refusals
+pub mod Listing
+pub mod Stores
+pub mod Shapes
+pub mod Grammar
+pub mod Entries
 pub mod Cases
 pub mod BytesLaws
 pub mod IntegerLaws
@@ -15,4 +21,9 @@ pub mod UriLaws
 pub mod HeaderLaws
 pub mod RegisterLaws
 pub mod Order
+pub mod ListingLaws
+pub mod Denials
+pub mod Lists
+pub mod Demand1
 pub mod Demand3
+pub mod MarkedCases
