@@ -25,5 +25,6 @@ pub mod ListingLaws
 pub mod Denials
 pub mod Lists
 pub mod Demand1
+pub mod Demand2
 pub mod Demand3
 pub mod MarkedCases

@@ -12,3 +12,5 @@ pub mod Numbers
 pub mod Places
 pub mod Keeping
 pub mod Erasing
+pub mod Adding
+pub mod Starting

@@ -8,7 +8,6 @@ use native.Mathlib.Omega.{arith}
 use native.Mathlib.Nat.{zero-add}
 use lib.ListN.{length, take, set, replicate, length-append}
 use lib.Seq.{set-at}
-use Rattle.format.specs.Cases.{from-zero-one}
 use Rattle.format.specs.Register.{Names, namedNumber, Rising}
 use Rattle.format.specs.Records.{plain, Entry, deleted, live, got, logbook, atHeader, item}
 use Rattle.format.specs.Reading.{whole, walk}
@@ -22,6 +21,7 @@ use Rattle.format.specs.Order.Changes.{RecordAt, plain-at, deleted-at, s
 use Rattle.format.specs.Lists.Rolls.{roll, roll-append, Part, part-walk, part-roll, got-part}
 use Rattle.format.specs.Lists.Registers.{meaning}
 use Rattle.format.specs.Lists.Walking.{parse-sequence}
+use Rattle.format.specs.Lists.Steps.{past-of}
 use Rattle.format.specs.Lists.Places.{item-tells}
 
 zero-writing : Writing (0 ∷ []) 0
@@ -74,10 +74,6 @@ changed g h q a w v ys es fs e l b c k =
 
 walk-rising : (a : List ℕ) (g : Names) → walk logbook 0 [] 0 a ≡ whole g → Rising namedNumber 0 g
 walk-rising a g e = walk-stands a logbook 0 [] g 0 a refl (stands-more [] a [] (stands-none [])) e .rising
-
-past-of : (p : ℕ) → atHeader logbook p ≡ false → 1 ≤ p
-past-of zero e = from-zero-one (cc)
-past-of (suc p) e = omega arith
 
 -- ---- an erase
 pub record Erasing (l : List ℕ) (q : ℕ) (e : Entry) : Type 0 where
