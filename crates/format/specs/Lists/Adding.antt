@@ -21,7 +21,7 @@ use Rattle.format.specs.Records.{Refusal, logbook, atHeader, roomFor, as
 use Rattle.format.specs.Reading.{Walked, whole, stop, walk, walkAll}
 use Rattle.format.specs.Calls.{Book, usedBytes, Parts, parts, bookOf, append, assign, Answer, appended, denied, Left, recordOf, write, appendNew, appendHeld, appendWalked, assignUnder, assignWalked, mayAppend, mayAssign, call, callOn}
 use Rattle.format.specs.Grammar.{Listed, listedAt, Writing, RecordOf, Register, change, Element, entry, assignment, removal, Sequence, done, more, Logbook, logbook as logbookOf}
-use Rattle.format.specs.Entries.{Least, Free, asHeld, asNew, Grown, Appends, appends, standsFor, Assigns, assigns}
+use Rattle.format.specs.Entries.{Least, Free, Added, asHeld, asNew, Grown, Appends, appends, standsFor, Assigns, assigns}
 use Rattle.format.specs.Order.Items.{not-stop}
 use Rattle.format.specs.Order.Standing.{Number, Stands, stands-none, stands-more, walk-stands}
 use Rattle.format.specs.Order.Wiping.{size-of}
@@ -45,7 +45,7 @@ logbook-more : {l : List ℕ} {es : List Listed} {r r1 : Register} → Logbook l
 logbook-more (logbookOf h {x = x} f s) w e el = rw (append-assoc h x w) (logbookOf h f (sequence-more s w e (rw (length-append h x) at el)))
 
 -- ---- what is written
-written-integer : (n : ℕ) → n < 268435456 → Writing (writeInteger 4 n) n
+pub written-integer : (n : ℕ) → n < 268435456 → Writing (writeInteger 4 n) n
 written-integer n h = size-of (writeInteger 4 n) n (rw append-nil at (write-reads n h []))
 
 written-record : (t : ℕ) (d : List ℕ) → Number t → length d ≤ 70000 → RecordOf (recordOf t d) t d
@@ -75,7 +75,7 @@ row-of g j u e = go (find namedNumber j g) refl
     go none q = from-zero-one (let z : none ≡ some u = rw q at e in cc)
     go (some r) q = record { row = r; found = q; named = some-some (rw q at e) }
 
-least-number : (l : List ℕ) (g : Names) (u : List ℕ) (n : ℕ) → Stands l g → numberFor u g ≡ some n → Least (meaning g) u n
+pub least-number : (l : List ℕ) (g : Names) (u : List ℕ) (n : ℕ) → Stands l g → numberFor u g ≡ some n → Least (meaning g) u n
 unfolding numberFor
 least-number l g u n s e =
     record {
@@ -83,7 +83,7 @@ least-number l g u n s e =
       least = λ j h k. let r = row-of g j u k in omega (arith, holder-least namedNumber namedUri u 0 n j (r .row) g (s .rising) e (r .found) (r .named));
     }
 
-no-number : (g : Names) (u : List ℕ) → numberFor u g ≡ none → (j : ℕ) → uriOf j g ≡ some u → ⊥
+pub no-number : (g : Names) (u : List ℕ) → numberFor u g ≡ none → (j : ℕ) → uriOf j g ≡ some u → ⊥
 unfolding numberFor
 no-number g u e j k = let r = row-of g j u k in holder-none namedNumber namedUri u j (r .row) g e (r .found) (r .named)
 
@@ -91,7 +91,7 @@ not-held : (v : Option Named) → isHeld v ≡ true → Option·map namedUri v �
 not-held none e f = from-zero-one (cc)
 not-held (some r) e f = from-zero-one (cc)
 
-free-number : (g : Names) → Rising namedNumber 0 g → Free (meaning g) (freeFrom namedNumber 1 g)
+pub free-number : (g : Names) → Rising namedNumber 0 g → Free (meaning g) (freeFrom namedNumber 1 g)
 unfolding uriOf
 free-number g t =
     record {
@@ -116,6 +116,71 @@ assign-element g p (suc t) (suc k) w m (b ∷ u) o i c h x a r = assignment m b 
 change-here : (r : Register) (k : ℕ) (v : Option (List ℕ)) → change r k v k ≡ v
 unfolding change
 change-here r k v = rw (eq-eqb k k refl)
+
+-- ---- what is asked
+pub record AskedAppend (u d : List ℕ) : Type 0 where
+  pub fewBytes : length d ≤ 65535
+  pub uriGood : appendable u ≡ true
+  pub uriSome : 1 ≤ length u
+  pub uriShort : length u ≤ 255
+  pub uriStands : standsFor u ≡ some u
+  pub uriAny : (n : ℕ) → assignable n u ≡ true
+
+uri-few : (v : List ℕ) → appendable v ≡ true → ((1 ≤ length v) × (length v ≤ 255)) × (standsFor v ≡ some v) × ((n : ℕ) → assignable n v ≡ true)
+unfolding standsFor assignable
+uri-few [] a = let k = allowed-length 1 [] (appendable-allowed [] a 1) in absurd (omega arith)
+uri-few (c ∷ v) a = (allowed-length 1 (c ∷ v) (appendable-allowed (c ∷ v) a 1), refl, λ n. appendable-allowed (c ∷ v) a n)
+
+pub asked-append : (u d : List ℕ) → mayAppend u d ≡ true → AskedAppend u d
+unfolding mayAppend
+asked-append u d may =
+    let g : appendable u ≡ true = and-right (leb (length d) 65535) (appendable u) may in
+    let f = uri-few u g in
+    record { fewBytes = leb-true (length d) 65535 (and-left (leb (length d) 65535) (appendable u) may); uriGood = g; uriSome = f .0 .0; uriShort = f .0 .1; uriStands = f .1; uriAny = f .2 }
+
+pub record AskedAssign (k : ℕ) (u : List ℕ) : Type 0 where
+  pub number : Number k
+  pub uriGood : assignable k u ≡ true
+  pub uriShort : length u ≤ 255
+
+assigned-few : (k : ℕ) (v : List ℕ) → assignable k v ≡ true → length v ≤ 255
+unfolding assignable
+assigned-few k [] a = omega arith
+assigned-few k (c ∷ v) a = allowed-length k (c ∷ v) a .1
+
+pub asked-assign : (k : ℕ) (u : List ℕ) → mayAssign k u ≡ true → AskedAssign k u
+unfolding mayAssign
+asked-assign k u may =
+    let a : (leb k 268435455 && assignable k u) ≡ true = and-right (leb 1 k) _ may in
+    let g : assignable k u ≡ true = and-right (leb k 268435455) _ a in
+    record { number = (leb-true 1 k (and-left (leb 1 k) _ may), omega (arith, leb-true k 268435455 (and-left (leb k 268435455) _ a))); uriGood = g; uriShort = assigned-few k u g }
+
+-- ---- the records that are added, by the names g that stand in l
+abbrev pub free : Names → ℕ
+free g = freeFrom namedNumber 1 g
+
+module _ (l : List ℕ) (g : Names) (s : Stands l g) where
+  free-numbers : Number (free g)
+  free-numbers = let k = free-bounds namedNumber 1 g in (k .0, omega (arith, s .few))
+
+  held-record : (u d : List ℕ) (n : ℕ) → length d ≤ 65535 → numberFor u g ≡ some n → RecordOf (recordOf n d) n d
+  held-record u d n f h = written-record n d (held-by l g u n s h .number) (omega arith)
+
+  pub assign-record : (t k : ℕ) (u : List ℕ) → k < 268435456 → length u ≤ 255 → numberFor typeName g ≡ some t → RecordOf (recordOf t (writeInteger 4 k ++ u)) t (writeInteger 4 k ++ u)
+  assign-record t k u a f h = let w = write-long k a in held-record typeName (writeInteger 4 k ++ u) t (rw length-append (omega arith)) h
+
+  pub added-held : (u d : List ℕ) (n : ℕ) → AskedAppend u d → numberFor u g ≡ some n → Added (meaning g) (length l) u d (recordOf n d) (listedAt (length l) u d ∷ []) (meaning g) (length l)
+  added-held u d n a h = asHeld n (least-number l g u n s h) (held-record u d n (a .fewBytes) h)
+
+  free-record : (d : List ℕ) → length d ≤ 65535 → RecordOf (recordOf (free g) d) (free g) d
+  free-record d f = written-record (free g) d free-numbers (omega arith)
+
+  pub added-new : (u d : List ℕ) (t : ℕ) → AskedAppend u d → numberFor u g ≡ none → numberFor typeName g ≡ some t
+      → Added (meaning g) (length l) u d (recordOf t (writeInteger 4 (free g) ++ u) ++ recordOf (free g) d)
+      (listedAt (length l) typeName (writeInteger 4 (free g) ++ u) ∷ listedAt (length l + length (recordOf t (writeInteger 4 (free g) ++ u))) u d ∷ []) (change (meaning g) (free g) (some u)) (length l + length (recordOf t (writeInteger 4 (free g) ++ u)))
+  added-new u d t a h ht =
+      asNew t (free g) (no-number g u h) (least-number l g typeName t s ht) (free-number g (s .rising)) (assign-record t (free g) u (free-numbers .1) (a .uriShort) ht)
+      (written-integer (free g) (free-numbers .1)) (free-record d (a .fewBytes))
 
 -- ---- a write
 answer-of : {a : Answer} {s : Parts} {l : Left} → l ≡ (a, s) → l .0 ≡ a
@@ -174,66 +239,42 @@ module _ (l rest : List ℕ) (b : length l ≤ 16777216) (some-bytes : 1 ≤ len
   before : Logbook l (roll logbook 0 [] 0 l) (meaning g)
   before = walk-logbook l g some-bytes walks
 
-  module _ (u d : List ℕ) (may : mayAppend u d ≡ true) where
-    data-few : length d ≤ 65535
-    unfolding mayAppend
-    data-few = leb-true (length d) 65535 (and-left (leb (length d) 65535) (appendable u) may)
-
-    uri-good : appendable u ≡ true
-    unfolding mayAppend
-    uri-good = and-right (leb (length d) 65535) (appendable u) may
-
+  module _ (u d : List ℕ) (asked : AskedAppend u d) where
     append-held : (n q N : ℕ) (s1 : Parts) → numberFor u g ≡ some n → Wrote 0 (recordOf n d) l rest q N s1 → Appends (bookOf (parts l rest)) (bookOf s1) u d q N
     unfolding bookOf
     append-held n q N s1 h w =
-        let nn : Number n = held-by l g u n stands h .number in
-        let c : RecordOf (recordOf n d) n d = written-record n d nn (omega (arith, data-few)) in
-        let ls : Least (meaning g) u n = least-number l g u n stands h in
+        let hb = held-by l g u n stands h in
+        let c : RecordOf (recordOf n d) n d = held-record l g stands u d n (asked .fewBytes) h in
         let k1 : Logbook (l ++ recordOf n d) (roll logbook 0 [] 0 l ++ (listedAt (length l) u d ∷ [])) (meaning g)
-        = logbook-more before (recordOf n d) (listedAt (length l) u d ∷ []) (entry-element (meaning g) (length l) n (recordOf n d) d u (nn .0) c (ls .holds) uri-good) in
+        = logbook-more before (recordOf n d) (listedAt (length l) u d ∷ []) (entry-element (meaning g) (length l) n (recordOf n d) d u (hb .number .0) c (hb .names) (asked .uriGood)) in
         let e : q ≡ length l = w .place ∙ add-zero (length l) in
         rw (w .after, e)
-        (appends (asHeld n ls c) (grown (recordOf n d) l rest N (roll logbook 0 [] 0 l) (listedAt (length l) u d ∷ []) (meaning g) (meaning g) b (w .fits) (w .small) (w .used) before k1))
+        (appends (added-held l g stands u d n asked h) (grown (recordOf n d) l rest N (roll logbook 0 [] 0 l) (listedAt (length l) u d ∷ []) (meaning g) (meaning g) b (w .fits) (w .small) (w .used) before k1))
 
-    free : ℕ
-    free = freeFrom namedNumber 1 g
-
-    free-numbers : Number free
-    unfolding free
-    free-numbers = let k = free-bounds namedNumber 1 g in (k .0, omega (arith, stands .few))
-
-    uri-few : (v : List ℕ) → appendable v ≡ true → (length v ≤ 255) × (standsFor v ≡ some v) × ((n : ℕ) → assignable n v ≡ true)
-    unfolding standsFor assignable
-    uri-few [] a = let k = allowed-length 1 [] (appendable-allowed [] a 1) in absurd (omega arith)
-    uri-few (c ∷ v) a = (allowed-length 1 (c ∷ v) (appendable-allowed (c ∷ v) a 1) .1, refl, λ n. appendable-allowed (c ∷ v) a n)
-
-    append-new : (t q N : ℕ) (s1 : Parts) → numberFor u g ≡ none → numberFor typeName g ≡ some t → roomFor free u g ≡ true
-        → Wrote (length (recordOf t (writeInteger 4 free ++ u))) (recordOf t (writeInteger 4 free ++ u) ++ recordOf free d) l rest q N s1 → Appends (bookOf (parts l rest)) (bookOf s1) u d q N
-    unfolding bookOf free
+    append-new : (t q N : ℕ) (s1 : Parts) → numberFor u g ≡ none → numberFor typeName g ≡ some t → roomFor (free g) u g ≡ true
+        → Wrote (length (recordOf t (writeInteger 4 (free g) ++ u))) (recordOf t (writeInteger 4 (free g) ++ u) ++ recordOf (free g) d) l rest q N s1 → Appends (bookOf (parts l rest)) (bookOf s1) u d q N
+    unfolding bookOf
     append-new t q N s1 h ht rm w =
-        let v : ℕ = freeFrom namedNumber 1 g in
+        let v : ℕ = free g in
+        let nv : Number v = free-numbers l g stands in
         let m : List ℕ = writeInteger 4 v in
-        let nt : Number t = held-by l g typeName t stands ht .number in
-        let wl = write-long v (free-numbers .1) in
-        let uf = uri-few u uri-good in
+        let hb = held-by l g typeName t stands ht in
         let w1 : List ℕ = recordOf t (m ++ u) in
-        let c : RecordOf w1 t (m ++ u) = written-record t (m ++ u) nt (rw length-append (omega arith)) in
-        let c1 : RecordOf (recordOf v d) v d = written-record v d free-numbers (omega (arith, data-few)) in
-        let x : Writing m v = written-integer v (free-numbers .1) in
-        let lt : Least (meaning g) typeName t = least-number l g typeName t stands ht in
+        let c : RecordOf w1 t (m ++ u) = assign-record l g stands t v u (nv .1) (asked .uriShort) ht in
         let es : List Listed = roll logbook 0 [] 0 l in
         let e1 : List Listed = listedAt (length l) typeName (m ++ u) ∷ [] in
         let e2 : List Listed = listedAt (length l + length w1) u d ∷ [] in
         let r1 : Register = change (meaning g) v (some u) in
-        let k1 : Logbook (l ++ w1) (es ++ e1) r1 = rw (uf .1) at (logbook-more before w1 e1 (assign-element g (length l) t v w1 m u (nt .0) (free-numbers .0) c (lt .holds) x (uf .2 v) rm)) in
+        let k1 : Logbook (l ++ w1) (es ++ e1) r1
+        = rw (asked .uriStands) at (logbook-more before w1 e1 (assign-element g (length l) t v w1 m u (hb .number .0) (nv .0) c (hb .names) (written-integer v (nv .1)) (asked .uriAny v) rm)) in
         let k2 : Logbook ((l ++ w1) ++ recordOf v d) ((es ++ e1) ++ e2) r1
-        = logbook-more k1 (recordOf v d) e2 (rw (length-append l w1) (entry-element r1 (length l + length w1) v (recordOf v d) d u (free-numbers .0) c1 (change-here (meaning g) v (some u)) uri-good)) in
+        = logbook-more k1 (recordOf v d) e2 (rw (length-append l w1) (entry-element r1 (length l + length w1) v (recordOf v d) d u (nv .0) (free-record l g stands d (asked .fewBytes)) (change-here (meaning g) v (some u)) (asked .uriGood))) in
         let k3 : Logbook (l ++ (w1 ++ recordOf v d)) (es ++ (e1 ++ e2)) r1 = rw (append-assoc l w1 (recordOf v d), append-assoc es e1 e2) at k2 in
         rw (w .after, w .place)
-        (appends (asNew t v (no-number g u h) lt (free-number g (stands .rising)) c x c1) (grown (w1 ++ recordOf v d) l rest N es (e1 ++ e2) (meaning g) r1 b (w .fits) (w .small) (w .used) before k3))
+        (appends (added-new l g stands u d t asked h ht) (grown (w1 ++ recordOf v d) l rest N es (e1 ++ e2) (meaning g) r1 b (w .fits) (w .small) (w .used) before k3))
 
     append-typed : (v : Option ℕ) (q N : ℕ) (s1 : Parts) → numberFor typeName g ≡ v → numberFor u g ≡ none → appendNew v g u d (parts l rest) ≡ (appended q N, s1) → Appends (bookOf (parts l rest)) (bookOf s1) u d q N
-    unfolding appendNew free
+    unfolding appendNew
     append-typed none q N s1 ht h e = not-appended e
     append-typed (some t) q N s1 ht h e =
         by-test (roomFor (freeFrom namedNumber 1 g) u g)
@@ -246,37 +287,20 @@ module _ (l rest : List ℕ) (b : length l ≤ 16777216) (some-bytes : 1 ≤ len
     append-named (some n) q N s1 h e = append-held n q N s1 h (wrote 0 (recordOf n d) l rest q N s1 e)
     append-named none q N s1 h e = append-typed (numberFor typeName g) q N s1 refl h e
 
-  module _ (k : ℕ) (u : List ℕ) (may : mayAssign k u ≡ true) where
-    assign-number : Number k
-    unfolding mayAssign
-    assign-number =
-        let a : (leb k 268435455 && assignable k u) ≡ true = and-right (leb 1 k) _ may in
-        (leb-true 1 k (and-left (leb 1 k) _ may), omega (arith, leb-true k 268435455 (and-left (leb k 268435455) _ a)))
-
-    assign-uri : assignable k u ≡ true
-    unfolding mayAssign
-    assign-uri = and-right (leb k 268435455) _ (and-right (leb 1 k) _ may)
-
-    assigned-few : (v : List ℕ) → assignable k v ≡ true → length v ≤ 255
-    unfolding assignable
-    assigned-few [] a = omega arith
-    assigned-few (c ∷ v) a = allowed-length k (c ∷ v) a .1
-
+  module _ (k : ℕ) (u : List ℕ) (asked : AskedAssign k u) where
     assign-one : (t q N : ℕ) (s1 : Parts) → numberFor typeName g ≡ some t → roomFor k u g ≡ true → Wrote 0 (recordOf t (writeInteger 4 k ++ u)) l rest q N s1 → Assigns (bookOf (parts l rest)) (bookOf s1) k u q N
     unfolding bookOf
     assign-one t q N s1 ht rm w =
         let m : List ℕ = writeInteger 4 k in
-        let nt : Number t = held-by l g typeName t stands ht .number in
-        let wl = write-long k (assign-number .1) in
+        let hb = held-by l g typeName t stands ht in
         let w1 : List ℕ = recordOf t (m ++ u) in
-        let c : RecordOf w1 t (m ++ u) = written-record t (m ++ u) nt (rw length-append (omega (arith, assigned-few u assign-uri))) in
-        let x : Writing m k = written-integer k (assign-number .1) in
-        let lt : Least (meaning g) typeName t = least-number l g typeName t stands ht in
+        let c : RecordOf w1 t (m ++ u) = assign-record l g stands t k u (asked .number .1) (asked .uriShort) ht in
+        let x : Writing m k = written-integer k (asked .number .1) in
         let e1 : List Listed = listedAt (length l) typeName (m ++ u) ∷ [] in
         let k1 : Logbook (l ++ w1) (roll logbook 0 [] 0 l ++ e1) (change (meaning g) k (standsFor u))
-        = logbook-more before w1 e1 (assign-element g (length l) t k w1 m u (nt .0) (assign-number .0) c (lt .holds) x assign-uri rm) in
+        = logbook-more before w1 e1 (assign-element g (length l) t k w1 m u (hb .number .0) (asked .number .0) c (hb .names) x (asked .uriGood) rm) in
         rw (w .after)
-        (assigns t lt c x (w .place ∙ add-zero (length l)) (grown w1 l rest N (roll logbook 0 [] 0 l) e1 (meaning g) (change (meaning g) k (standsFor u)) b (w .fits) (w .small) (w .used) before k1))
+        (assigns t (least-number l g typeName t stands ht) c x (w .place ∙ add-zero (length l)) (grown w1 l rest N (roll logbook 0 [] 0 l) e1 (meaning g) (change (meaning g) k (standsFor u)) b (w .fits) (w .small) (w .used) before k1))
 
     assign-typed : (v : Option ℕ) (q N : ℕ) (s1 : Parts) → numberFor typeName g ≡ v → assignUnder v g k u (parts l rest) ≡ (appended q N, s1) → Assigns (bookOf (parts l rest)) (bookOf s1) k u q N
     unfolding assignUnder
@@ -302,7 +326,7 @@ unfolding appendWalked
 append-walked l rest u d q N s1 b m (stop r) w e = not-appended e
 append-walked l rest u d q N s1 b m (whole g) w e =
     let k = whole-walk l g w in
-    append-named l rest b (k .some) g (k .walks) u d m (numberFor u g) q N s1 refl e
+    append-named l rest b (k .some) g (k .walks) u d (asked-append u d m) (numberFor u g) q N s1 refl e
 
 append-parts : (l rest u d : List ℕ) (q N : ℕ) (s1 : Parts) → length l ≤ 16777216 → call logbook (append u d) (parts l rest) ≡ (appended q N, s1) → Appends (bookOf (parts l rest)) (bookOf s1) u d q N
 unfolding call
@@ -322,7 +346,7 @@ unfolding assignWalked
 assign-walked l rest u k q N s1 b m (stop r) w e = not-appended e
 assign-walked l rest u k q N s1 b m (whole g) w e =
     let x = whole-walk l g w in
-    assign-typed l rest b (x .some) g (x .walks) k u m (numberFor typeName g) q N s1 refl e
+    assign-typed l rest b (x .some) g (x .walks) k u (asked-assign k u m) (numberFor typeName g) q N s1 refl e
 
 assign-parts : (l rest u : List ℕ) (k q N : ℕ) (s1 : Parts) → length l ≤ 16777216 → call logbook (assign k u) (parts l rest) ≡ (appended q N, s1) → Assigns (bookOf (parts l rest)) (bookOf s1) k u q N
 unfolding call
