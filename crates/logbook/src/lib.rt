@@ -1,0 +1,23 @@
+// Every public call of the library, and what it takes and answers. None has a `requires`, but `uri_of`, which takes an item's row.
+pub use appending::Appended;
+pub use appending::Started;
+pub use appending::append;
+pub use appending::assign;
+pub use appending::start;
+pub use erasing::Erased;
+pub use erasing::Wiped;
+pub use erasing::erase;
+pub use erasing::wipe;
+pub use listing::Listed;
+pub use listing::fill;
+pub use reading::Entry;
+pub use reading::EntryNumber;
+pub use reading::Item;
+pub use reading::Reading;
+pub use reading::Step;
+pub use record::Live;
+pub use record::Place;
+pub use record::Refusal;
+pub use register::Register;
+pub use register::Row;
+pub use register::uri_of;
