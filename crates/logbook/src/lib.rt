@@ -1,4 +1,4 @@
-// Every public call of the library, and what it takes and answers. None has a `requires`, but `uri_of`, which takes an item's row.
+// Every public call of the library, and what it takes and answers. None has a `requires`, save `uri_of`: the row of an item shown.
 pub use appending::Appended;
 pub use appending::Started;
 pub use appending::append;
