@@ -1,0 +1,41 @@
+-- By where the URI stands.
+use borrow.Author.Needs.{needs}
+use Rattle.logbook_c.proofs.logbook_uri.Statement.{statement}
+use Rattle.logbook_c.proofs.logbook_uri.Tie as tie
+
+resolve-requires : tie.Need-resolve-requires
+resolve-requires c κs = search needs
+
+enum-known-place : tie.Need-enum-known-place
+enum-known-place c = search needs
+
+enum-known-place-2 : tie.Need-enum-known-place-2
+enum-known-place-2 c = search needs
+
+enum-known-x : tie.Need-enum-known-x
+enum-known-x c = search needs
+
+tell-requires : tie.Need-tell-requires
+tell-requires c κs = search needs
+
+returns : tie.Need-returns
+returns c = record { answer = c .before .before .before .resolve .result; told = rw (c .before .place .given .1); means = c .before .before .before .resolve .ensures .0; stays = c .before .before .before .resolve .ensures .1 }
+
+returns-2 : tie.Need-returns-2
+returns-2 c = record { answer = c .before .before .before .resolve .result; told = rw (c .before .place2 .given .1); means = c .before .before .before .resolve .ensures .0; stays = c .before .before .before .resolve .ensures .1 }
+
+returns-3 : tie.Need-returns-3
+returns-3 c = record { answer = c .before .before .before .before .resolve .result; told = rw (c .before .before .x .given .1, ← (c .tell .ensures)); means = c .before .before .before .before .resolve .ensures .0; stays = c .before .before .before .before .resolve .ensures .1 }
+
+pub logbook-uri-spec : {M : Type 1} → statement M
+logbook-uri-spec =
+    tie.close
+    (tie.spec
+    resolve-requires
+    enum-known-place
+    enum-known-place-2
+    enum-known-x
+    tell-requires
+    returns
+    returns-2
+    returns-3)

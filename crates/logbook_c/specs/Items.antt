@@ -1,0 +1,198 @@
+-- What C gets of a reading, an item, a URI's place and a listing.
+use mathlib.Core.Path.{_≡_, ap, _∙_, subst}
+use mathlib.Core.Bool.{Bool, true, false}
+use mathlib.Core.List.{List}
+use Prim.Native.Nat.{ℕ, _+_, _-_, _≤_}
+use native.Mathlib.Omega.{arith}
+use lib.ListN.{length, take, length-take}
+use Rattle.format.specs.Records.{Refusal, logbook}
+use Rattle.format.specs.Calls.{stepOn}
+use Rattle.format.specs.Bytes.{stored}
+use Rattle.register.specs.Tables.{rowOf}
+use Rattle.register.specs.declared.Row.{Row}
+use Rattle.record.specs.Items.{refusalOf, Lies}
+use Rattle.fit.specs.Resolving.{resolving, resolvedOf, Stays}
+use Rattle.fit.specs.declared.Resolved.{Resolved}
+use Rattle.fit.specs.declared.Resolved.the-variants.{Log, Implied}
+use Rattle.fit.specs.declared.Resolved.the-variants as Resolution
+use Rattle.reading.specs.Readings.{readingOf, steppedOf, Lying, bookIn}
+use Rattle.reading.specs.declared.Entry.{Entry}
+use Rattle.reading.specs.declared.Reading.{Reading}
+use Rattle.reading.specs.declared.Item.{Item}
+use Rattle.reading.specs.declared.Item.the-variants as Variant
+use Rattle.reading.specs.declared.Step.{Step}
+use Rattle.listing.specs.Filling.{Filled, fillOf}
+use Rattle.listing.specs.FillingLaws.{Fills}
+use Rattle.listing.specs.declared.Listed.{Listed}
+use Rattle.logbook_c.specs.declared.LogbookReading.{LogbookReading}
+use Rattle.logbook_c.specs.declared.LogbookRow.{LogbookRow}
+use Rattle.logbook_c.specs.declared.LogbookItem.{LogbookItem}
+use Rattle.logbook_c.specs.declared.LogbookStep.{LogbookStep}
+use Rattle.logbook_c.specs.declared.LogbookUri.{LogbookUri}
+use Rattle.logbook_c.specs.declared.LogbookListed.{LogbookListed}
+
+-- ---- a reading, both ways
+abbrev pub readingFrom : LogbookReading → Reading
+readingFrom r =
+    record {
+      position = record { 0 = r .position };
+      count = record { 0 = r .count };
+      register = record { numbers = r .numbers; places = r .places; lengths = r .lengths; held = r .held };
+    }
+
+abbrev pub readingAs : Reading → LogbookReading
+readingAs r =
+    record {
+      position = r .position .0;
+      count = r .count .0;
+      held = r .register .held;
+      numbers = r .register .numbers;
+      places = r .register .places;
+      lengths = r .register .lengths;
+    }
+
+-- ---- an item: kinds 0 to 6
+abbrev pub rowAs : Row → LogbookRow
+rowAs r = record { number = r .number; place = r .place; length = r .length }
+
+abbrev pub bareAs : ℕ → ℕ → ℕ → LogbookItem
+bareAs kind x p =
+    record {
+      kind = kind;
+      refusal = x;
+      place = p;
+      number = 0;
+      «type_place» = 0;
+      «data_place» = 0;
+      «data_length» = 0;
+      row = record { number = 0; place = 0; length = 0 };
+      assigned = 0;
+      «assigned_place» = 0;
+    }
+
+-- k bytes of size, s of body
+abbrev pub deletedAs : ℕ → ℕ → ℕ → LogbookItem
+deletedAs p k s =
+    record {
+      kind = 1;
+      refusal = 0;
+      place = p;
+      number = 0;
+      «type_place» = p + k;
+      «data_place» = p + k;
+      «data_length» = s;
+      row = record { number = 0; place = 0; length = 0 };
+      assigned = 0;
+      «assigned_place» = 0;
+    }
+
+abbrev pub liveAs : ℕ → Entry → LogbookItem
+liveAs kind e =
+    record {
+      kind = kind;
+      refusal = 0;
+      place = e .place .0;
+      number = e .number .0;
+      «type_place» = e .place .0 + e .live .size;
+      «data_place» = e .place .0 + e .live .size + e .live .kind;
+      «data_length» = e .live .body - e .live .kind;
+      row = rowAs (e .live .row);
+      assigned = 0;
+      «assigned_place» = 0;
+    }
+
+-- of number n, whose URI stands m bytes behind the data's start
+abbrev pub assignmentAs : Entry → ℕ → ℕ → LogbookItem
+assignmentAs e n m =
+    record {
+      kind = 4;
+      refusal = 0;
+      place = e .place .0;
+      number = e .number .0;
+      «type_place» = e .place .0 + e .live .size;
+      «data_place» = e .place .0 + e .live .size + e .live .kind;
+      «data_length» = e .live .body - e .live .kind;
+      row = rowAs (e .live .row);
+      assigned = n;
+      «assigned_place» = e .place .0 + e .live .size + e .live .kind + m;
+    }
+
+abbrev pub refusedAs : Refusal → LogbookItem
+refusedAs x = bareAs 6 (x .number) (x .place)
+
+abbrev pub itemAs : Item → LogbookItem
+itemAs (Variant.Padding p) = bareAs 0 0 (p .0)
+itemAs (Variant.Deleted p k s) = deletedAs (p .0) k s
+itemAs (Variant.Entry e) = liveAs 2 e
+itemAs (Variant.Header e) = liveAs 3 e
+itemAs (Variant.Assignment e n m) = assignmentAs e n m
+itemAs (Variant.End p) = bareAs 5 0 (p .0)
+itemAs (Variant.Refused x) = refusedAs (refusalOf x)
+
+-- ---- it lies within n bytes
+pub record BoundedEntry (n : ℕ) (e : Entry) : Type 0 where
+  pub whole : e .place .0 + e .live .size + e .live .body ≤ n
+  pub type : e .live .kind ≤ e .live .body
+
+abbrev pub Bounded : ℕ → Item → Type 0
+Bounded n (Variant.Padding p) = Unit {0}
+Bounded n (Variant.Deleted p k s) = p .0 + k + s ≤ n
+Bounded n (Variant.Entry e) = BoundedEntry n e
+Bounded n (Variant.Header e) = BoundedEntry n e
+Bounded n (Variant.Assignment e k m) = BoundedEntry n e × (e .live .kind + m ≤ e .live .body)
+Bounded n (Variant.End p) = Unit {0}
+Bounded n (Variant.Refused x) = Unit {0}
+
+-- ---- a step: the structs of a step of the library, which means what the definition says
+pub record Steps (l : List ℕ) (used : ℕ) (r : LogbookReading) (x : LogbookStep) : Type 0 where
+  pub step : Step
+  pub item : x .item ≡ itemAs (step .item)
+  pub reading : readingFrom (x .reading) ≡ step .reading
+  pub means : steppedOf (take used l) step ≡ stepOn logbook (bookIn l used) (readingOf (readingFrom r))
+  pub lying : Lying (take used l) (step .item)
+
+-- ---- where a URI stands
+abbrev pub rowFrom : LogbookRow → Row
+rowFrom r = record { number = r .number; place = r .place; length = r .length }
+
+abbrev pub uriAs : Resolved → LogbookUri
+uriAs (Log p n) = record { refusal = 0; implied = 0; place = p; length = n }
+uriAs (Implied p n) = record { refusal = 0; implied = 1; place = p; length = n }
+uriAs (Resolution.Refused x) = record { refusal = refusalOf x .number; implied = 0; place = 0; length = 0 }
+
+pub record Resolves (len used : ℕ) (r : LogbookRow) (x : LogbookUri) : Type 0 where
+  pub answer : Resolved
+  pub told : x ≡ uriAs answer
+  pub means : (l : List ℕ) → length l ≡ len → resolvedOf (take used l) answer ≡ resolving (bookIn l used) (rowOf (rowFrom r))
+  pub stays : Stays used answer
+
+-- ---- a listing's part
+abbrev pub flagOf : Bool → ℕ
+flagOf true = 1
+flagOf false = 0
+
+pub record Lists (f : Filled) (out₀ out : List ℕ) (x : LogbookListed) : Type 0 where
+  pub written : x .length ≡ length (f .text)
+  pub last : x .over ≡ flagOf (f .over)
+  pub reading : readingOf (readingFrom (x .reading)) ≡ f .reading
+  pub bytes : out ≡ stored out₀ 0 (f .text)
+
+-- ---- laws
+taken-short : (used : ℕ) (l : List ℕ) → length (take used l) ≤ length l
+taken-short used l = omega (arith, length-take used l)
+
+pub lying-bounded : (used : ℕ) (l : List ℕ) (i : Item) → Lying (take used l) i → Bounded (length l) i
+lying-bounded used l (Variant.Padding p) k = tt
+lying-bounded used l (Variant.Deleted p a b) k = omega (arith, k, taken-short used l)
+lying-bounded used l (Variant.Entry e) k = record { whole = omega (arith, k .whole, taken-short used l); type = k .type }
+lying-bounded used l (Variant.Header e) k = record { whole = omega (arith, k .0 .whole, taken-short used l); type = k .0 .type }
+lying-bounded used l (Variant.Assignment e n m) k = (record { whole = omega (arith, k .0 .whole, taken-short used l); type = k .0 .type }, k .2)
+lying-bounded used l (Variant.End p) k = tt
+lying-bounded used l (Variant.Refused x) k = tt
+
+pub list-told : (r : LogbookReading) (q : Reading) (file out₀ out : List ℕ) (t : Listed) (x : LogbookListed) → q ≡ readingFrom r
+    → Fills out₀ (fillOf file (length out₀) (readingOf q)) out (t .len) (readingOf (t .reading)) (t .over) → x .length ≡ t .len → x .over ≡ flagOf (t .over) → x .reading ≡ readingAs (t .reading)
+    → Lists (fillOf file (length out₀) (readingOf (readingFrom r))) out₀ out x
+list-told r q file out₀ out t x e f a b d =
+    subst (λ (y : Reading). Lists (fillOf file (length out₀) (readingOf y)) out₀ out x) e
+    (record { written = a ∙ f .0; last = b ∙ ap flagOf (f .2); reading = ap (λ (y : LogbookReading). readingOf (readingFrom y)) d ∙ f .1; bytes = f .3 })

@@ -1,0 +1,451 @@
+// What C and Rust call: every public call, with numbers, byte slices and structs of numbers. include/logbook.h documents it.
+ghost use mathlib.Core.Path.{_≡_};
+ghost use Prim.Native.Nat.{_+_, _≤_};
+ghost use lib.ListN.{length};
+ghost use Rattle.format.specs.Records.{logbook};
+ghost use Rattle.format.specs.Reading as Format;
+ghost use Rattle.format.specs.Calls as Calls;
+ghost use Rattle.format.specs.Calls.{callOn};
+ghost use Rattle.record.specs.Items.{refusalOf};
+ghost use Rattle.appending.specs.Starts.{startedOf};
+ghost use Rattle.appending.specs.Appendings.{bookIn, appendedOf};
+ghost use Rattle.erasing.specs.Erases.{erasedOf};
+ghost use Rattle.erasing.specs.Wipes.{wipedOf};
+ghost use Rattle.reading.specs.Readings.{readingOf};
+ghost use Rattle.listing.specs.Filling.{fillOf};
+ghost use Rattle.logbook_c.specs.Answers.{startedAs, appendedAs, erasedAs, wipedAs};
+ghost use Rattle.logbook_c.specs.Items.{readingFrom, readingAs, rowAs, bareAs, deletedAs, liveAs, assignmentAs, refusedAs, itemAs, BoundedEntry, Bounded, Steps, Resolves, flagOf, Lists};
+use appending::Appended;
+use appending::Started;
+use erasing::Erased;
+use erasing::Wiped;
+use fit::Resolved;
+use reading::Entry;
+use reading::EntryNumber;
+use reading::Item;
+use reading::Reading;
+use record::Place;
+use record::Refusal;
+use register::Register;
+use register::Row;
+
+#[repr(C)]
+pub struct LogbookStarted {
+    pub refusal: usize,
+    pub place: usize,
+    pub used: usize,
+}
+
+#[repr(C)]
+pub struct LogbookAppended {
+    pub refusal: usize,
+    pub place: usize,
+    pub used: usize,
+}
+
+#[repr(C)]
+pub struct LogbookErased {
+    pub refusal: usize,
+    pub place: usize,
+}
+
+#[repr(C)]
+pub struct LogbookWiped {
+    pub refusal: usize,
+    pub place: usize,
+    pub stores: usize,
+}
+
+#[repr(C)]
+pub struct LogbookReading {
+    pub position: usize,
+    pub count: usize,
+    pub held: usize,
+    pub numbers: [u32; 32],
+    pub places: [u32; 32],
+    pub lengths: [u32; 32],
+}
+
+#[repr(C)]
+pub struct LogbookRow {
+    pub number: u32,
+    pub place: u32,
+    pub length: u32,
+}
+
+#[repr(C)]
+pub struct LogbookItem {
+    pub kind: usize,
+    pub refusal: usize,
+    pub place: usize,
+    pub number: usize,
+    pub type_place: usize,
+    pub data_place: usize,
+    pub data_length: usize,
+    pub row: LogbookRow,
+    pub assigned: u32,
+    pub assigned_place: usize,
+}
+
+#[repr(C)]
+pub struct LogbookStep {
+    pub item: LogbookItem,
+    pub reading: LogbookReading,
+}
+
+#[repr(C)]
+pub struct LogbookUri {
+    pub refusal: usize,
+    pub implied: usize,
+    pub place: usize,
+    pub length: usize,
+}
+
+#[repr(C)]
+pub struct LogbookListed {
+    pub length: usize,
+    pub over: usize,
+    pub reading: LogbookReading,
+}
+
+fn started(r: Started) -> LogbookStarted
+    ensures { λ x. ⌜ x ≡ startedAs (startedOf r) ⌝ }
+{
+    match r {
+        Started::Used(used) => LogbookStarted {
+            refusal: 0,
+            place: 0,
+            used,
+        },
+        Started::Refused(x) => {
+            let t = record::tell(x);
+            LogbookStarted {
+                refusal: t.number,
+                place: t.place.0,
+                used: 0,
+            }
+        }
+    }
+}
+
+#[no_mangle]
+pub extern "C" fn logbook_start(buf: &mut [u8], uuid: &[u8], free_part: &[u8]) -> LogbookStarted
+    ensures { λ r. ⌜ (r ≡ startedAs ((Calls.start (now (uuid .entry)) (now («free_part» .entry)) (now (buf .entry))) .answer)) × (now (buf .exit) ≡ (Calls.start (now (uuid .entry)) (now («free_part» .entry)) (now (buf .entry))) .buffer) ⌝ }
+{
+    started(appending::start(buf, uuid, free_part))
+}
+
+fn appended(used: usize, r: Appended) -> LogbookAppended
+    ensures { λ x. ⌜ x ≡ appendedAs used (appendedOf r) ⌝ }
+{
+    match r {
+        Appended::At { place, used: after } => LogbookAppended {
+            refusal: 0,
+            place: place.0,
+            used: after,
+        },
+        Appended::Refused(x) => {
+            let t = record::tell(x);
+            LogbookAppended {
+                refusal: t.number,
+                place: t.place.0,
+                used,
+            }
+        }
+    }
+}
+
+#[no_mangle]
+pub extern "C" fn logbook_append(
+    buf: &mut [u8],
+    used: usize,
+    uri: &[u8],
+    bytes: &[u8],
+) -> LogbookAppended
+    ensures { λ r. ⌜ (r ≡ appendedAs used ((callOn logbook (Calls.append (now (uri .entry)) (now (bytes .entry))) (bookIn (now (buf .entry)) used)) .answer)) × (bookIn (now (buf .exit)) (r .used) ≡ (callOn logbook (Calls.append (now (uri .entry)) (now (bytes .entry))) (bookIn (now (buf .entry)) used)) .book) ⌝ }
+{
+    appended(used, appending::append(buf, used, uri, bytes))
+}
+
+#[no_mangle]
+pub extern "C" fn logbook_assign(
+    buf: &mut [u8],
+    used: usize,
+    number: u32,
+    uri: &[u8],
+) -> LogbookAppended
+    ensures { λ r. ⌜ (r ≡ appendedAs used ((callOn logbook (Calls.assign number (now (uri .entry))) (bookIn (now (buf .entry)) used)) .answer)) × (bookIn (now (buf .exit)) (r .used) ≡ (callOn logbook (Calls.assign number (now (uri .entry))) (bookIn (now (buf .entry)) used)) .book) ⌝ }
+{
+    appended(used, appending::assign(buf, used, number, uri))
+}
+
+fn erased(r: Erased) -> LogbookErased
+    ensures { λ x. ⌜ x ≡ erasedAs (erasedOf r) ⌝ }
+{
+    match r {
+        Erased::At(place) => LogbookErased {
+            refusal: 0,
+            place: place.0,
+        },
+        Erased::Refused(x) => {
+            let t = record::tell(x);
+            LogbookErased {
+                refusal: t.number,
+                place: t.place.0,
+            }
+        }
+    }
+}
+
+#[no_mangle]
+pub extern "C" fn logbook_erase(buf: &mut [u8], used: usize, place: usize) -> LogbookErased
+    ensures { λ r. ⌜ (r ≡ erasedAs ((callOn logbook (Calls.erase place) (bookIn (now (buf .entry)) used)) .answer)) × (bookIn (now (buf .exit)) used ≡ (callOn logbook (Calls.erase place) (bookIn (now (buf .entry)) used)) .book) ⌝ }
+{
+    erased(erasing::erase(buf, used, Place(place)))
+}
+
+fn wiped(r: Wiped) -> LogbookWiped
+    ensures { λ x. ⌜ x ≡ wipedAs (wipedOf r) ⌝ }
+{
+    match r {
+        Wiped::Stores(stores) => LogbookWiped {
+            refusal: 0,
+            place: 0,
+            stores,
+        },
+        Wiped::Refused(x) => {
+            let t = record::tell(x);
+            LogbookWiped {
+                refusal: t.number,
+                place: t.place.0,
+                stores: 0,
+            }
+        }
+    }
+}
+
+#[no_mangle]
+pub extern "C" fn logbook_wipe(
+    buf: &mut [u8],
+    used: usize,
+    place: usize,
+    limit: usize,
+) -> LogbookWiped
+    ensures { λ r. ⌜ (r ≡ wipedAs ((callOn logbook (Calls.wipe place limit) (bookIn (now (buf .entry)) used)) .answer)) × (bookIn (now (buf .exit)) used ≡ (callOn logbook (Calls.wipe place limit) (bookIn (now (buf .entry)) used)) .book) ⌝ }
+{
+    wiped(erasing::wipe(buf, used, Place(place), limit))
+}
+
+fn reading_from(r: LogbookReading) -> Reading
+    ensures { λ x. ⌜ x ≡ readingFrom r ⌝ }
+{
+    let numbers = r.numbers;
+    let places = r.places;
+    let lengths = r.lengths;
+    let register = Register {
+        numbers,
+        places,
+        lengths,
+        held: r.held,
+    };
+    Reading {
+        position: Place(r.position),
+        count: EntryNumber(r.count),
+        register,
+    }
+}
+
+fn reading_as(r: Reading) -> LogbookReading
+    ensures { λ x. ⌜ x ≡ readingAs r ⌝ }
+{
+    let numbers = r.register.numbers;
+    let places = r.register.places;
+    let lengths = r.register.lengths;
+    LogbookReading {
+        position: r.position.0,
+        count: r.count.0,
+        held: r.register.held,
+        numbers,
+        places,
+        lengths,
+    }
+}
+
+#[no_mangle]
+pub extern "C" fn logbook_fresh() -> LogbookReading
+    ensures { λ r. ⌜ readingOf (readingFrom r) ≡ Format.fresh ⌝ }
+{
+    reading_as(Reading::fresh())
+}
+
+fn row_as(row: Row) -> LogbookRow
+    ensures { λ x. ⌜ x ≡ rowAs row ⌝ }
+{
+    LogbookRow {
+        number: row.number,
+        place: row.place,
+        length: row.length,
+    }
+}
+
+// An item that is no record.
+fn bare_item(kind: usize, refusal: usize, place: usize) -> LogbookItem
+    ensures { λ x. ⌜ x ≡ bareAs kind refusal place ⌝ }
+{
+    let row = LogbookRow {
+        number: 0,
+        place: 0,
+        length: 0,
+    };
+    LogbookItem {
+        kind,
+        refusal,
+        place,
+        number: 0,
+        type_place: 0,
+        data_place: 0,
+        data_length: 0,
+        row,
+        assigned: 0,
+        assigned_place: 0,
+    }
+}
+
+fn deleted_item(buf: &[u8], place: usize, size: usize, body: usize) -> LogbookItem
+    requires { ⌜ place + size + body ≤ length (now buf) ⌝ }
+    ensures { λ x. ⌜ x ≡ deletedAs place size body ⌝ }
+{
+    let mut x = bare_item(1, 0, place);
+    x.type_place = place + size;
+    x.data_place = place + size;
+    x.data_length = body;
+    x
+}
+
+fn live_item(buf: &[u8], kind: usize, e: Entry) -> LogbookItem
+    requires { ⌜ BoundedEntry (length (now buf)) e ⌝ }
+    ensures { λ x. ⌜ x ≡ liveAs kind e ⌝ }
+{
+    let live = e.live;
+    let place = e.place.0;
+    let row = row_as(live.row);
+    LogbookItem {
+        kind,
+        refusal: 0,
+        place,
+        number: e.number.0,
+        type_place: place + live.size,
+        data_place: place + live.size + live.kind,
+        data_length: live.body - live.kind,
+        row,
+        assigned: 0,
+        assigned_place: 0,
+    }
+}
+
+fn assignment_item(buf: &[u8], e: Entry, number: u32, gap: usize) -> LogbookItem
+    requires { ⌜ BoundedEntry (length (now buf)) e × (e .live .kind + gap ≤ e .live .body) ⌝ }
+    ensures { λ x. ⌜ x ≡ assignmentAs e number gap ⌝ }
+{
+    let mut x = live_item(buf, 4, e);
+    let at = x.data_place;
+    x.assigned = number;
+    x.assigned_place = at + gap;
+    x
+}
+
+fn refused_item(x: Refusal) -> LogbookItem
+    ensures { λ r. ⌜ r ≡ refusedAs (refusalOf x) ⌝ }
+{
+    let t = record::tell(x);
+    bare_item(6, t.number, t.place.0)
+}
+
+// An item that lies in a buffer.
+fn item_as(buf: &[u8], item: Item) -> LogbookItem
+    requires { ⌜ Bounded (length (now buf)) item ⌝ }
+    ensures { λ x. ⌜ x ≡ itemAs item ⌝ }
+{
+    match item {
+        Item::Padding(place) => bare_item(0, 0, place.0),
+        Item::Deleted { place, size, body } => deleted_item(buf, place.0, size, body),
+        Item::Entry(e) => live_item(buf, 2, e),
+        Item::Header(e) => live_item(buf, 3, e),
+        Item::Assignment { entry, number, gap } => assignment_item(buf, entry, number, gap),
+        Item::End(place) => bare_item(5, 0, place.0),
+        Item::Refused(x) => refused_item(x),
+    }
+}
+
+#[no_mangle]
+pub extern "C" fn logbook_step(buf: &[u8], used: usize, reading: LogbookReading) -> LogbookStep
+    ensures { λ r. ⌜ Steps (now (buf .entry)) used reading r ⌝ }
+{
+    let t = reading_from(reading).step(buf, used);
+    let shown = t.item;
+    let next = t.reading;
+    let item = item_as(buf, shown);
+    let reading = reading_as(next);
+    LogbookStep { item, reading }
+}
+
+#[no_mangle]
+pub extern "C" fn logbook_uri(len: usize, used: usize, row: LogbookRow) -> LogbookUri
+    ensures { λ r. ⌜ Resolves len used row r ⌝ }
+{
+    let row = Row {
+        number: row.number,
+        place: row.place,
+        length: row.length,
+    };
+    match fit::resolve(len, used, row) {
+        Resolved::Log { place, length } => LogbookUri {
+            refusal: 0,
+            implied: 0,
+            place,
+            length,
+        },
+        Resolved::Implied { place, length } => LogbookUri {
+            refusal: 0,
+            implied: 1,
+            place,
+            length,
+        },
+        Resolved::Refused(x) => {
+            let t = record::tell(x);
+            LogbookUri {
+                refusal: t.number,
+                implied: 0,
+                place: 0,
+                length: 0,
+            }
+        }
+    }
+}
+
+fn flag(b: bool) -> usize
+    ensures { λ r. ⌜ r ≡ flagOf b ⌝ }
+{
+    if b {
+        return 1;
+    }
+    0
+}
+
+#[no_mangle]
+pub extern "C" fn logbook_list(
+    reading: LogbookReading,
+    file: &[u8],
+    out: &mut [u8],
+) -> LogbookListed
+    ensures { λ r. ⌜ Lists (fillOf (now (file .entry)) (length (now (out .entry))) (readingOf (readingFrom reading))) (now (out .entry)) (now (out .exit)) r ⌝ }
+{
+    let t = listing::fill(reading_from(reading), file, out);
+    let next = t.reading;
+    let reading = reading_as(next);
+    LogbookListed {
+        length: t.len,
+        over: flag(t.over),
+        reading,
+    }
+}

@@ -1,0 +1,183 @@
+/*
+ * logbook.h: a proved logbook for Lozizol 0.5, for C.
+ *
+ * A logbook is a sequence of records in a buffer that the caller lends: `buf` with `len` bytes, of which the first `used` belong to
+ * the logbook. The library keeps no state, allocates nothing and never holds on to a pointer: every call works on what it is given
+ * and is over when it returns. Calls on different buffers may run at the same time; calls on one buffer may not.
+ *
+ * Every call takes any arguments. It answers its item or result, or one of the refusals below with the refusal's number and place;
+ * a refused call changes nothing. A pointer with length 0 may be null. Any other pointer must be readable (or, where it isn't
+ * const, writable) for its length, and a buffer that is written may not overlap another argument.
+ *
+ * A place counts bytes from the buffer's start; a number counts live entries, the header is 1.
+ *
+ * Link with liblogbook_c.a (rt staticlib logbook_c).
+ */
+#ifndef LOGBOOK_H
+#define LOGBOOK_H
+
+#include <stddef.h>
+#include <stdint.h>
+
+#ifdef __cplusplus
+extern "C" {
+#endif
+
+/* ---- limits */
+#define LOGBOOK_HEADER_LENGTH 109u        /* bytes of a header, and of a logbook that has been started */
+#define LOGBOOK_UUID_LENGTH 16u           /* bytes of a UUID, as they are (not its text) */
+#define LOGBOOK_FREE_LENGTH 60u           /* bytes of a header's free part */
+#define LOGBOOK_USED_LIMIT 16777216u      /* the greatest used length */
+#define LOGBOOK_NUMBER_LIMIT 268435455u   /* the greatest type number */
+#define LOGBOOK_DATA_LIMIT 65535u         /* the most data bytes of an entry that is appended */
+#define LOGBOOK_URI_LIMIT 255u            /* the most bytes of a URI */
+#define LOGBOOK_ROWS 32u                  /* type numbers held at once */
+#define LOGBOOK_FILE_LIMIT 65536u         /* the longest file that is listed */
+#define LOGBOOK_LINE_LIMIT 320u           /* room that a listing asks for each line */
+
+/* ---- refusals: the number, when it is given, and the place that comes with it (0 where none is named) */
+enum {
+    LOGBOOK_DONE = 0,            /* not refused */
+    LOGBOOK_USED_LENGTH = 1,     /* the used length is over the buffer's, or over 16,777,216 */
+    LOGBOOK_INCOMPLETE = 2,      /* a record isn't whole at the used length; its start */
+    LOGBOOK_NOT_HEADER = 3,      /* a header hasn't the header's form; its start */
+    LOGBOOK_BROKEN = 4,          /* a broken integer, or a type past its size; the record's start */
+    LOGBOOK_BAD_ASSIGNMENT = 5,  /* an assignment's data missing or broken, number 0, or its URI not allowed; the record's start */
+    LOGBOOK_NOT_HELD = 6,        /* a record's type number isn't held; the record's start */
+    LOGBOOK_REGISTER_FULL = 7,   /* 32 numbers are held and a further one is assigned; the record's start, or the used length */
+    LOGBOOK_NOTHING_THERE = 8,   /* erase: no live entry starts there; wipe: no deleted record does; the asked place */
+    LOGBOOK_FIXED = 9,           /* a header or an assignment is never erased; the asked place */
+    LOGBOOK_BAD_REQUEST = 10,    /* data too long, URI not allowed, number 0 or too great, UUID or free part of another length */
+    LOGBOOK_NO_TYPE_NUMBER = 11, /* an assignment is needed, and no number holds urn:lozizol:type */
+    LOGBOOK_NO_ROOM = 12,        /* the records don't fit the buffer or the limit; the used length (start: 0) */
+    LOGBOOK_NOT_FITTING = 13     /* the reading (or the row) that was handed in doesn't fit */
+};
+
+/* ---- start a logbook: a header over the first 109 bytes; the others stay. `used` is 109, or 0 where refused (10, 12). */
+typedef struct logbook_started {
+    size_t refusal, place;
+    size_t used;
+} logbook_started;
+
+logbook_started logbook_start(uint8_t *buf, size_t len, const uint8_t *uuid, size_t uuid_len, const uint8_t *free_part,
+                              size_t free_len);
+
+/*
+ * ---- append an entry by URI (where no number holds it, an assignment goes first: both or neither), or assign a type number. An
+ * empty URI removes the number. `place` is that of the last record written, or the refusal's; `used` is the used length after the
+ * call, which a refused call leaves as it was. Bytes past it stay.
+ */
+typedef struct logbook_appended {
+    size_t refusal, place;
+    size_t used;
+} logbook_appended;
+
+logbook_appended logbook_append(uint8_t *buf, size_t len, size_t used, const uint8_t *uri, size_t uri_len, const uint8_t *data,
+                                size_t data_len);
+logbook_appended logbook_assign(uint8_t *buf, size_t len, size_t used, uint32_t number, const uint8_t *uri, size_t uri_len);
+
+/* ---- erase the live entry that starts at a place: one byte is stored, at the place answered. */
+typedef struct logbook_erased {
+    size_t refusal, place;
+} logbook_erased;
+
+logbook_erased logbook_erase(uint8_t *buf, size_t len, size_t used, size_t place);
+
+/*
+ * ---- wipe the deleted record that starts at a place, by at most `limit` single stores, in an order that leaves a readable logbook
+ * after each. `stores` is how many were made: the smaller of the limit and the record's nonzero bytes (0 where refused).
+ */
+typedef struct logbook_wiped {
+    size_t refusal, place;
+    size_t stores;
+} logbook_wiped;
+
+logbook_wiped logbook_wipe(uint8_t *buf, size_t len, size_t used, size_t place, size_t limit);
+
+/*
+ * ---- read a logbook item by item. A reading is a value: copy it, keep it, hand it in again later. Its register has `held` rows in
+ * use, by rising number; the others are zero. A row of length 0 is one that a header implies.
+ */
+typedef struct logbook_reading {
+    size_t position; /* a place */
+    size_t count;    /* live entries so far */
+    size_t held;
+    uint32_t numbers[LOGBOOK_ROWS];
+    uint32_t places[LOGBOOK_ROWS];
+    uint32_t lengths[LOGBOOK_ROWS];
+} logbook_reading;
+
+/* A row of the register: a type number and where its URI stands. */
+typedef struct logbook_row {
+    uint32_t number, place, length;
+} logbook_row;
+
+enum { /* what an item is */
+    LOGBOOK_PADDING = 0,    /* one byte of padding */
+    LOGBOOK_DELETED = 1,    /* a deleted record */
+    LOGBOOK_ENTRY = 2,      /* a live entry */
+    LOGBOOK_HEADER = 3,     /* a header, a live entry too */
+    LOGBOOK_ASSIGNMENT = 4, /* an assignment, a live entry too */
+    LOGBOOK_END = 5,        /* the used length is reached */
+    LOGBOOK_REFUSED = 6     /* nothing was read: see `refusal` */
+};
+
+typedef struct logbook_item {
+    size_t kind;
+    size_t refusal;     /* 0, or the refusal's number */
+    size_t place;       /* where the item starts; of a refusal its place */
+    size_t number;      /* a live entry's number; else 0 */
+    size_t type_place;  /* of a record: its first type byte; else 0 */
+    size_t data_place;  /* of a live entry: behind the type; of a deleted record: its body; else 0 */
+    size_t data_length; /* up to the record's end; else 0 */
+    logbook_row row;    /* of a live entry: its type number, and where its URI stands (logbook_uri); else zero */
+    uint32_t assigned;  /* of an assignment: the number that it assigns or removes; else 0 */
+    size_t assigned_place; /* of an assignment: where that number's URI stands, up to the record's end; else 0 */
+} logbook_item;
+
+typedef struct logbook_step_result {
+    logbook_item item;
+    logbook_reading reading; /* behind the item; at the end, and where refused, as it was handed in */
+} logbook_step_result;
+
+logbook_reading logbook_fresh(void);
+logbook_step_result logbook_step(const uint8_t *buf, size_t len, size_t used, logbook_reading reading);
+
+/*
+ * ---- the URI of a row: `length` bytes at `place` of the buffer, or, where `implied` is 1, of LOGBOOK_IMPLIED_NAMES. Refused with 13
+ * for a row that no reading of these used bytes could have.
+ */
+#define LOGBOOK_IMPLIED_NAMES "urn:lozizol:typeurn:lozizol:header"
+
+typedef struct logbook_uri_answer {
+    size_t refusal;
+    size_t implied;
+    size_t place;
+    size_t length;
+} logbook_uri_answer;
+
+logbook_uri_answer logbook_uri(size_t len, size_t used, logbook_row row);
+
+/* The URI's first byte; its length is in the answer. */
+static inline const uint8_t *logbook_uri_bytes(const uint8_t *buf, logbook_uri_answer uri) {
+    return (uri.implied ? (const uint8_t *)LOGBOOK_IMPLIED_NAMES : buf) + uri.place;
+}
+
+/*
+ * ---- list a file as text, one line for each live entry (place, number, URI, data length, with a TAB between), then `end` and the used
+ * length, or `refused`, number and place. Whole lines are written from the front of `out`, as long as 320 bytes are left; `length` bytes
+ * were written, and `over` is 1 with the last line. Go on with the reading that comes back until then. The first call takes a fresh one.
+ */
+typedef struct logbook_listed {
+    size_t length;
+    size_t over;
+    logbook_reading reading;
+} logbook_listed;
+
+logbook_listed logbook_list(logbook_reading reading, const uint8_t *file, size_t file_len, uint8_t *out, size_t out_len);
+
+#ifdef __cplusplus
+}
+#endif
+
+#endif
