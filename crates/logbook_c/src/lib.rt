@@ -381,12 +381,31 @@ fn item_as(buf: &[u8], item: Item) -> LogbookItem
 pub extern "C" fn logbook_step(buf: &[u8], used: usize, reading: LogbookReading) -> LogbookStep
     ensures { λ r. ⌜ Steps (now (buf .entry)) used reading r ⌝ }
 {
-    let t = reading_from(reading).step(buf, used);
+    let mut numbers = reading.numbers;
+    let mut places = reading.places;
+    let mut lengths = reading.lengths;
+    let t = reading::advance(
+        buf,
+        used,
+        reading.position,
+        reading.count,
+        &mut numbers,
+        &mut places,
+        &mut lengths,
+        reading.held,
+    );
     let shown = t.item;
-    let next = t.reading;
-    let item = item_as(buf, shown);
-    let reading = reading_as(next);
-    LogbookStep { item, reading }
+    LogbookStep {
+        item: item_as(buf, shown),
+        reading: LogbookReading {
+            position: t.position,
+            count: t.count,
+            held: t.held,
+            numbers,
+            places,
+            lengths,
+        },
+    }
 }
 
 #[no_mangle]

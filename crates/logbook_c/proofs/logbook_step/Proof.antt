@@ -1,38 +1,35 @@
--- The library's step, in structs; its item lies in the used bytes, so no sum goes over.
-use mathlib.Core.Path.{ap, _∙_}
+-- The move of a reading whose rows are the struct's; its item lies in the used bytes, so no sum goes over.
+use mathlib.Core.Path.{refl}
 use denote.Ref.{now}
-use Rattle.format.specs.Records.{logbook}
-use Rattle.format.specs.Calls.{stepOn}
-use Rattle.reading.specs.Readings.{readingOf, bookIn}
-use Rattle.reading.specs.declared.Reading.{Reading}
-use Rattle.logbook_c.specs.Items.{readingFrom, lying-bounded}
+use Rattle.logbook_c.specs.Items.{lying-bounded}
 use borrow.Author.Needs.{needs}
 use Rattle.logbook_c.proofs.logbook_step.Statement.{statement}
 use Rattle.logbook_c.proofs.logbook_step.Tie as tie
 
-reading-from-requires : tie.Need-reading-from-requires
-reading-from-requires c κs = search needs
-
-step-requires : tie.Need-step-requires
-step-requires c κs = search needs
+advance-requires : tie.Need-advance-requires
+advance-requires c κs = search needs
 
 item-as-requires : tie.Need-item-as-requires
-item-as-requires c κs = lying-bounded (c .before .before .before .before .args .used) (now (c .before .before .before .before .args .buf)) (c .before .step .result .item) (c .before .step .ensures .1)
-
-reading-as-requires : tie.Need-reading-as-requires
-reading-as-requires c κs = search needs
+item-as-requires c κs = lying-bounded (c .before .before .before .before .before .before .before .before .args .used) (now (c .before .before .before .before .before .before .before .before .args .buf)) (c .advance .result .item) (c .advance .ensures .2)
 
 returns : tie.Need-returns
-returns c = let a = c .before .before .before .before .before .before .args in
+returns c = let t = c .before .advance in
     record {
-      step = c .before .before .before .step .result;
-      item = c .before .item-as .ensures;
-      reading = ap readingFrom (c .reading-as .ensures);
-      means = c .before .before .before .step .ensures .0 ∙ ap (λ (x : Reading). stepOn logbook (bookIn (now (a .buf)) (a .used)) (readingOf x)) (c .before .before .before .before .reading-from .ensures);
-      lying = c .before .before .before .step .ensures .1;
+      step =
+          record {
+            item = t .result .item;
+            reading =
+                record {
+                  position = record { 0 = t .result .position };
+                  count = record { 0 = t .result .count };
+                  register = record { numbers = t .last .1 .1 .1 .1 .0; places = t .last .1 .1 .1 .1 .1 .0; lengths = t .last .1 .1 .1 .1 .1 .1 .0; held = t .result .held };
+                };
+          };
+      item = c .item-as .ensures;
+      reading = refl;
+      means = t .ensures .1;
+      lying = t .ensures .2;
     }
 
 pub logbook-step-spec : {M : Type 1} → statement M
-logbook-step-spec =
-    tie.close
-    (tie.spec reading-from-requires step-requires item-as-requires reading-as-requires returns)
+logbook-step-spec = tie.close (tie.spec advance-requires item-as-requires returns)
