@@ -1,4 +1,5 @@
-// Every public call of the library, and what it takes and answers. None has a `requires`, save `uri_of`: the row of an item shown.
+// Every public call of the library, and what it takes and answers. None has a `requires`, save `uri_of`: the row of an item shown;
+// `resolve` tells where the URI of any row stands.
 pub use appending::Appended;
 pub use appending::Started;
 pub use appending::append;
@@ -8,6 +9,8 @@ pub use erasing::Erased;
 pub use erasing::Wiped;
 pub use erasing::erase;
 pub use erasing::wipe;
+pub use fit::Resolved;
+pub use fit::resolve;
 pub use listing::Listed;
 pub use listing::fill;
 pub use reading::Entry;
