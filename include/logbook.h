@@ -53,7 +53,7 @@ enum {
     LOGBOOK_NOT_FITTING = 13     /* the reading (or the row) that was handed in doesn't fit */
 };
 
-/* ---- start a logbook: a header over the first 109 bytes; the others stay. `used` is 109, or 0 where refused (10, 12). */
+/* ---- start a logbook: a header over the first 109 bytes; the others stay. `used` is 109 (and `place` 0), or 0 where refused (10, 12). */
 typedef struct logbook_started {
     size_t refusal, place;
     size_t used;
@@ -85,7 +85,8 @@ logbook_erased logbook_erase(uint8_t *buf, size_t len, size_t used, size_t place
 
 /*
  * ---- wipe the deleted record that starts at a place, by at most `limit` single stores, in an order that leaves a readable logbook
- * after each. `stores` is how many were made: the smaller of the limit and the record's nonzero bytes (0 where refused).
+ * after each. `stores` is how many were made: the smaller of the limit and the record's nonzero bytes (0 where refused). `place` is the
+ * refusal's, else 0.
  */
 typedef struct logbook_wiped {
     size_t refusal, place;
@@ -127,7 +128,7 @@ typedef struct logbook_item {
     size_t refusal;     /* 0, or the refusal's number */
     size_t place;       /* where the item starts; of a refusal its place */
     size_t number;      /* a live entry's number; else 0 */
-    size_t type_place;  /* of a record: its first type byte; else 0 */
+    size_t type_place;  /* of a record: its first type byte (of a deleted one its body); else 0 */
     size_t data_place;  /* of a live entry: behind the type; of a deleted record: its body; else 0 */
     size_t data_length; /* up to the record's end; else 0 */
     logbook_row row;    /* of a live entry: its type number, and where its URI stands (logbook_uri); else zero */
@@ -144,8 +145,8 @@ logbook_reading logbook_fresh(void);
 logbook_step_result logbook_step(const uint8_t *buf, size_t len, size_t used, logbook_reading reading);
 
 /*
- * ---- the URI of a row: `length` bytes at `place` of the buffer, or, where `implied` is 1, of LOGBOOK_IMPLIED_NAMES. Refused with 13
- * for a row that no reading of these used bytes could have.
+ * ---- the URI of a row: `length` bytes at `place` of the buffer, or, where `implied` is 1, of LOGBOOK_IMPLIED_NAMES. `len` and `used` are the
+ * buffer's. Refused with 1 for the used length, and with 13 for a row that a reading at the used length would not fit with.
  */
 #define LOGBOOK_IMPLIED_NAMES "urn:lozizol:typeurn:lozizol:header"
 
@@ -166,7 +167,8 @@ static inline const uint8_t *logbook_uri_bytes(const uint8_t *buf, logbook_uri_a
 /*
  * ---- list a file as text, one line for each live entry (place, number, URI, data length, with a TAB between), then `end` and the used
  * length, or `refused`, number and place. Whole lines are written from the front of `out`, as long as 320 bytes are left; `length` bytes
- * were written, and `over` is 1 with the last line. Go on with the reading that comes back until then. The first call takes a fresh one.
+ * were written, and `over` is 1 with the last line. Go on with the reading that comes back until then. The first call takes a fresh one;
+ * one that doesn't fit gets `refused`, 13, 0. A file over 65,536 bytes gets `refused`, 1, 0.
  */
 typedef struct logbook_listed {
     size_t length;

@@ -1,0 +1,37 @@
+//! A short run of the comparisons, for a memory checker: every buffer is an
+//! allocation of just its length.
+
+use compare::files::{check, check_changes, demo};
+use compare::series::{Counts, Series};
+use compare::tally::Tally;
+
+const SEED: u64 = 1;
+
+fn main() {
+    let mut tally = Tally::default();
+    for round in 0..270 {
+        compare::calls::round(SEED, round, &mut tally);
+    }
+    compare::calls::bounds(SEED, &mut tally);
+    for (name, file) in demo() {
+        for length in (0..=file.len()).step_by(29) {
+            check(
+                format!("{name} up to {length}"),
+                &file[..length],
+                &mut tally,
+            );
+        }
+        for place in (0..file.len()).step_by(83) {
+            check_changes(&name, &file, place, false, &mut tally);
+        }
+    }
+    let mut counts = Counts::default();
+    for round in 0..100 {
+        Series::draw(SEED, round).check(&mut counts);
+    }
+    println!(
+        "{} calls compared, {} series in both orders",
+        tally.calls(),
+        counts.series
+    );
+}

@@ -1,0 +1,26 @@
+//! Holds the proved logbook library (`logbook::raw`) against the independent
+//! reader (`reader`), call by call.
+//!
+//! [`books`] and [`hostile`] make logbooks, [`requests`] and [`readings`] make
+//! what is asked of them, [`sides`] asks both implementations in one form, and
+//! [`case`] compares what comes back. [`calls`], [`series`] and [`files`] are
+//! the runs that the tests and the example `small` share.
+//!
+//! `LOGBOOK_SEED` and `LOGBOOK_ROUNDS` (a multiplier) make other and longer
+//! runs. The tests print what they counted: `cargo test --release -- --nocapture`.
+
+#![forbid(unsafe_code)]
+
+pub mod books;
+pub mod calls;
+pub mod case;
+pub mod files;
+pub mod hostile;
+pub mod pieces;
+pub mod random;
+pub mod readings;
+pub mod requests;
+pub mod series;
+pub mod settings;
+pub mod sides;
+pub mod tally;

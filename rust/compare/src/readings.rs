@@ -1,0 +1,178 @@
+//! Readings handed in from outside: without plan, nearly fitting, or made to mislead.
+
+use crate::case::Track;
+use crate::pieces::*;
+use crate::random::Random;
+use logbook::raw;
+
+/// A reading from outside for a logbook, of which the track's reading may fit.
+pub fn outside(random: &mut Random, buf: &[u8], track: &Track) -> raw::Reading {
+    let known = &track.reading;
+    match random.below(8) {
+        0 => anything(random, track.used),
+        1..=4 => nearly(random, track.used, known),
+        5 => elsewhere(random, track.used, known),
+        _ => naming(random, &buf[..track.used], &track.places),
+    }
+}
+
+/// A place or a count at a bound.
+fn edge(random: &mut Random, used: usize) -> usize {
+    let bounds = [
+        0,
+        1,
+        2,
+        HEADER_LENGTH - 1,
+        HEADER_LENGTH,
+        used.saturating_sub(1),
+        used,
+        used + 1,
+        USED_LIMIT,
+        USED_LIMIT + 1,
+        u32::MAX as usize,
+        u32::MAX as usize + 1,
+        usize::MAX,
+    ];
+    match random.below(3) {
+        0 => random.pick(&bounds),
+        _ => random.below(used + 1),
+    }
+}
+
+/// A field of a row at a bound.
+fn row_edge(random: &mut Random, used: usize) -> u32 {
+    let bounds = [
+        0,
+        1,
+        2,
+        110,
+        111,
+        112,
+        255,
+        256,
+        257,
+        511,
+        512,
+        NUMBER_LIMIT - 1,
+        NUMBER_LIMIT,
+        NUMBER_LIMIT + 1,
+        u32::MAX - 255,
+        u32::MAX - 1,
+        u32::MAX,
+    ];
+    match random.below(3) {
+        0 => random.pick(&bounds),
+        1 => random.below(used + 2) as u32,
+        _ => random.below(300) as u32,
+    }
+}
+
+/// Random fields.
+fn anything(random: &mut Random, used: usize) -> raw::Reading {
+    let mut reading = raw::fresh();
+    reading.position = edge(random, used);
+    reading.count = edge(random, used);
+    reading.held = random.pick(&[0, 1, 2, 3, 31, 32, 33, 34, usize::MAX]);
+    for row in 0..reading.held.min(raw::ROWS) {
+        reading.numbers[row] = row_edge(random, used);
+        reading.places[row] = row_edge(random, used);
+        reading.lengths[row] = row_edge(random, used);
+    }
+    if random.one_in(2) {
+        reading.numbers.sort_unstable();
+    }
+    reading
+}
+
+/// A known reading with one field changed.
+fn nearly(random: &mut Random, used: usize, known: &raw::Reading) -> raw::Reading {
+    let mut reading = *known;
+    let last = reading.held.clamp(1, raw::ROWS);
+    let row = match random.below(4) {
+        0 => last - 1,
+        1 => last.min(raw::ROWS - 1),
+        2 => random.below(raw::ROWS),
+        _ => random.below(last),
+    };
+    let field = match random.below(6) {
+        0 => return moved(random, used, reading, |reading| &mut reading.position),
+        1 => return moved(random, used, reading, |reading| &mut reading.count),
+        2 => return moved(random, used, reading, |reading| &mut reading.held),
+        3 => &mut reading.numbers[row],
+        4 => &mut reading.places[row],
+        _ => &mut reading.lengths[row],
+    };
+    *field = match random.below(3) {
+        0 => field.wrapping_add(1),
+        1 => field.wrapping_sub(1),
+        _ => row_edge(random, used),
+    };
+    reading
+}
+
+/// The reading with one of its counts changed.
+fn moved(
+    random: &mut Random,
+    used: usize,
+    mut reading: raw::Reading,
+    field: fn(&mut raw::Reading) -> &mut usize,
+) -> raw::Reading {
+    let field = field(&mut reading);
+    *field = match random.below(4) {
+        0 => field.wrapping_add(1),
+        1 => field.wrapping_sub(1),
+        2 => random.pick(&[31, 32, 33]),
+        _ => edge(random, used),
+    };
+    reading
+}
+
+/// A known reading at any other position, within a record or the header too.
+fn elsewhere(random: &mut Random, used: usize, known: &raw::Reading) -> raw::Reading {
+    let mut reading = *known;
+    reading.position = random.below(used + 1);
+    reading.count = random.below(reading.position + 1);
+    reading
+}
+
+/// A fitting reading whose written rows name any bytes, the three names among them.
+fn naming(random: &mut Random, log: &[u8], places: &[usize]) -> raw::Reading {
+    let mut reading = raw::fresh();
+    reading.position = match places {
+        [] => random.below(log.len() + 1),
+        places => random.pick(places).min(log.len()),
+    };
+    reading.count = random.below(reading.position + 1);
+    let passed = &log[..reading.position];
+    if passed.is_empty() {
+        return reading;
+    }
+    let names: Vec<(usize, usize)> = [TYPE, HEADER, DELETED]
+        .iter()
+        .filter_map(|name| Some((find(passed, name)?, name.len())))
+        .collect();
+    let mut number = 0;
+    for row in 0..random.between(1, raw::ROWS) {
+        number += if random.one_in(6) { 105 } else { 1 };
+        let (place, length) = match random.below(3) {
+            0 | 1 if !names.is_empty() => random.pick(&names),
+            _ => span(random, passed.len()),
+        };
+        reading.held = row + 1;
+        reading.numbers[row] = number;
+        reading.places[row] = place as u32;
+        reading.lengths[row] = length as u32;
+    }
+    reading
+}
+
+/// A place and a length of 1 to 255 that end within this length.
+fn span(random: &mut Random, length: usize) -> (usize, usize) {
+    let span = random.between(1, length.min(255));
+    (random.below(length - span + 1), span)
+}
+
+/// Where these bytes stand.
+fn find(bytes: &[u8], name: &[u8]) -> Option<usize> {
+    bytes.windows(name.len()).position(|part| part == name)
+}

@@ -1,0 +1,354 @@
+//! One form for what is asked of the two implementations and what they answer.
+//!
+//! An answer has the library's own structs. What the independent reader says
+//! is brought into them; fields that it has no word for (a record's type
+//! place, its row, the number that an assignment assigns) are taken from the
+//! bytes, as `logbook.h` describes them.
+
+use crate::pieces::integer;
+use crate::tally::FULL_FOR_REQUEST;
+use logbook::raw;
+
+/// What is asked. The buffer and its used length come beside it.
+#[derive(Clone, Debug)]
+pub enum Request {
+    /// Start a logbook.
+    Start { uuid: Vec<u8>, free: Vec<u8> },
+    /// Append an entry.
+    Append { uri: Vec<u8>, data: Vec<u8> },
+    /// Assign a number, or remove it.
+    Assign { number: u32, uri: Vec<u8> },
+    /// Erase an entry.
+    Erase { place: usize },
+    /// Wipe a deleted record.
+    Wipe { place: usize, limit: usize },
+    /// Read one item.
+    Step { reading: Box<raw::Reading> },
+    /// List the used bytes as a file, in pieces of that many bytes (at least 320).
+    List { room: usize },
+}
+
+impl Request {
+    /// The call's row in a tally.
+    pub fn call(&self) -> usize {
+        match self {
+            Request::Start { .. } => 0,
+            Request::Append { .. } => 1,
+            Request::Assign { .. } => 2,
+            Request::Erase { .. } => 3,
+            Request::Wipe { .. } => 4,
+            Request::Step { .. } => 5,
+            Request::List { .. } => 6,
+        }
+    }
+}
+
+/// What is answered: every field of it is compared.
+#[derive(Clone, PartialEq, Debug)]
+pub enum Answer {
+    /// Of a start.
+    Started(raw::Started),
+    /// Of an append or an assignment.
+    Appended(raw::Appended),
+    /// Of an erase.
+    Erased(raw::Erased),
+    /// Of a wipe.
+    Wiped(raw::Wiped),
+    /// Of a step, with a live entry's URI and data as they are now.
+    Stepped {
+        step: Box<raw::Step>,
+        uri: Vec<u8>,
+        data: Vec<u8>,
+    },
+    /// Of a listing: its whole text.
+    Listed(Vec<u8>),
+}
+
+impl Answer {
+    /// The column in a tally; `used` is the used length that was handed in.
+    pub fn column(&self, used: usize) -> usize {
+        match self {
+            Answer::Started(answer) => answer.refusal,
+            Answer::Appended(answer) if answer.refusal == 7 && answer.place == used => {
+                FULL_FOR_REQUEST
+            }
+            Answer::Appended(answer) => answer.refusal,
+            Answer::Erased(answer) => answer.refusal,
+            Answer::Wiped(answer) => answer.refusal,
+            Answer::Stepped { step, .. } => step.item.refusal,
+            Answer::Listed(text) => listed_refusal(text),
+        }
+    }
+}
+
+/// The refusal's number in the last line of a listing; 0 where it ends.
+fn listed_refusal(text: &[u8]) -> usize {
+    let last = text.trim_ascii_end().rsplit(|&byte| byte == b'\n').next();
+    let mut words = last.unwrap_or_default().split(|&byte| byte == b'\t');
+    if words.next() != Some(b"refused") {
+        return 0;
+    }
+    let number = words.next().unwrap_or_default();
+    number
+        .iter()
+        .fold(0, |number, digit| number * 10 + usize::from(digit - b'0'))
+}
+
+/// The library's answer.
+pub fn ours(buf: &mut [u8], used: usize, request: &Request) -> Answer {
+    match request {
+        Request::Start { uuid, free } => Answer::Started(raw::start(buf, uuid, free)),
+        Request::Append { uri, data } => Answer::Appended(raw::append(buf, used, uri, data)),
+        Request::Assign { number, uri } => Answer::Appended(raw::assign(buf, used, *number, uri)),
+        Request::Erase { place } => Answer::Erased(raw::erase(buf, used, *place)),
+        Request::Wipe { place, limit } => Answer::Wiped(raw::wipe(buf, used, *place, *limit)),
+        Request::Step { reading } => our_step(buf, used, reading),
+        Request::List { room } => Answer::Listed(our_listing(file(buf, used), *room)),
+    }
+}
+
+/// The independent reader's answer.
+pub fn theirs(buf: &mut [u8], used: usize, request: &Request) -> Answer {
+    match request {
+        Request::Start { uuid, free } => Answer::Started(started(reader::start(buf, uuid, free))),
+        Request::Append { uri, data } => {
+            Answer::Appended(appended(used, reader::append(buf, used, uri, data)))
+        }
+        Request::Assign { number, uri } => {
+            Answer::Appended(appended(used, reader::assign(buf, used, *number, uri)))
+        }
+        Request::Erase { place } => Answer::Erased(erased(reader::erase(buf, used, *place))),
+        Request::Wipe { place, limit } => {
+            Answer::Wiped(wiped(reader::wipe(buf, used, *place, *limit)))
+        }
+        Request::Step { reading } => their_step(buf, used, reading),
+        Request::List { .. } => Answer::Listed(reader::listing(file(buf, used))),
+    }
+}
+
+/// The used bytes as a file; where the used length is over, the whole buffer.
+fn file(buf: &[u8], used: usize) -> &[u8] {
+    buf.get(..used).unwrap_or(buf)
+}
+
+/// The bytes of a row's URI, as the library says where they stand; none if it refuses the row.
+pub fn our_uri(buf: &[u8], used: usize, row: raw::Row) -> Option<&[u8]> {
+    let answer = raw::uri(buf.len(), used, row);
+    let text = match answer.implied {
+        0 => buf,
+        _ => raw::IMPLIED_NAMES,
+    };
+    (answer.refusal == 0).then(|| &text[answer.place..answer.place + answer.length])
+}
+
+/// Whether the item is a live entry.
+pub fn is_live(item: &raw::Item) -> bool {
+    matches!(item.kind, raw::ENTRY | raw::HEADER | raw::ASSIGNMENT)
+}
+
+/// A step of the library, with the URI and data of a live entry.
+pub fn our_step(buf: &[u8], used: usize, reading: &raw::Reading) -> Answer {
+    let step = Box::new(raw::step(buf, used, *reading));
+    let item = &step.item;
+    let (mut uri, mut data) = (Vec::new(), Vec::new());
+    if is_live(item) {
+        uri.extend_from_slice(our_uri(buf, used, item.row).unwrap_or(b"(refused)"));
+        data.extend_from_slice(&buf[item.data_place..item.data_place + item.data_length]);
+    }
+    Answer::Stepped { step, uri, data }
+}
+
+/// The library's listing, joined from pieces of at most `room` bytes.
+pub fn our_listing(file: &[u8], room: usize) -> Vec<u8> {
+    let (mut text, mut reading) = (Vec::new(), raw::fresh());
+    let mut out = vec![0; room];
+    loop {
+        let listed = raw::list(reading, file, &mut out);
+        text.extend_from_slice(&out[..listed.length]);
+        if listed.over == 1 {
+            return text;
+        }
+        if room - listed.length >= raw::LINE_LIMIT {
+            text.extend_from_slice(b"(stopped with room left)");
+            return text;
+        }
+        reading = listed.reading;
+    }
+}
+
+fn started(answer: Result<usize, reader::Refusal>) -> raw::Started {
+    let (refusal, place, used) = match answer {
+        Ok(used) => (0, 0, used),
+        Err(refused) => (usize::from(refused.number), refused.place, 0),
+    };
+    raw::Started {
+        refusal,
+        place,
+        used,
+    }
+}
+
+fn appended(used: usize, answer: Result<reader::Appended, reader::Refusal>) -> raw::Appended {
+    let (refusal, place, used) = match answer {
+        Ok(done) => (0, done.place, done.used),
+        Err(refused) => (usize::from(refused.number), refused.place, used),
+    };
+    raw::Appended {
+        refusal,
+        place,
+        used,
+    }
+}
+
+fn erased(answer: Result<usize, reader::Refusal>) -> raw::Erased {
+    let (refusal, place) = match answer {
+        Ok(place) => (0, place),
+        Err(refused) => (usize::from(refused.number), refused.place),
+    };
+    raw::Erased { refusal, place }
+}
+
+fn wiped(answer: Result<usize, reader::Refusal>) -> raw::Wiped {
+    let (refusal, place, stores) = match answer {
+        Ok(stores) => (0, 0, stores),
+        Err(refused) => (usize::from(refused.number), refused.place, 0),
+    };
+    raw::Wiped {
+        refusal,
+        place,
+        stores,
+    }
+}
+
+/// A reading as the independent reader has it: a row in use of length 0 is an implied one.
+pub fn to_theirs(reading: &raw::Reading) -> reader::Reading {
+    let mut theirs = reader::Reading::fresh();
+    theirs.position = reading.position;
+    theirs.count = reading.count;
+    theirs.held = reading.held;
+    for (index, row) in theirs.rows.iter_mut().enumerate() {
+        row.number = reading.numbers[index];
+        row.place = reading.places[index];
+        row.length = reading.lengths[index];
+        row.implied = index < reading.held && row.number != 0 && row.length == 0;
+    }
+    theirs
+}
+
+/// A reading as the library has it.
+pub fn from_theirs(theirs: &reader::Reading) -> raw::Reading {
+    raw::Reading {
+        position: theirs.position,
+        count: theirs.count,
+        held: theirs.held,
+        numbers: theirs.rows.map(|row| row.number),
+        places: theirs.rows.map(|row| row.place),
+        lengths: theirs.rows.map(|row| row.length),
+    }
+}
+
+/// A step of the independent reader, in the library's structs.
+fn their_step(buf: &[u8], used: usize, reading: &raw::Reading) -> Answer {
+    let (answer, next) = to_theirs(reading).step(buf, used);
+    let (mut live_uri, mut live_data) = (Vec::new(), Vec::new());
+    let item = match answer {
+        Err(refused) => raw::Item {
+            refusal: usize::from(refused.number),
+            ..plain_item(raw::REFUSED, refused.place)
+        },
+        Ok(reader::Item::Padding { place }) => plain_item(raw::PADDING, place),
+        Ok(reader::Item::End { place }) => plain_item(raw::END, place),
+        Ok(reader::Item::Deleted { place }) => {
+            let (size, width) = integer(&buf[place..]);
+            raw::Item {
+                type_place: place + width,
+                data_place: place + width,
+                data_length: size as usize,
+                ..plain_item(raw::DELETED, place)
+            }
+        }
+        Ok(entry @ reader::Item::Entry { uri, data, .. }) => {
+            live_uri.extend_from_slice(uri);
+            live_data.extend_from_slice(data);
+            entry_item(buf, reading, entry)
+        }
+    };
+    let reading = from_theirs(&next);
+    Answer::Stepped {
+        step: Box::new(raw::Step { item, reading }),
+        uri: live_uri,
+        data: live_data,
+    }
+}
+
+/// An item of which only kind and place are known.
+fn plain_item(kind: usize, place: usize) -> raw::Item {
+    raw::Item {
+        kind,
+        refusal: 0,
+        place,
+        number: 0,
+        type_place: 0,
+        data_place: 0,
+        data_length: 0,
+        row: raw::Row {
+            number: 0,
+            place: 0,
+            length: 0,
+        },
+        assigned: 0,
+        assigned_place: 0,
+    }
+}
+
+/// A live entry in the library's struct.
+fn entry_item(buf: &[u8], reading: &raw::Reading, entry: reader::Item<'_>) -> raw::Item {
+    let reader::Item::Entry {
+        place,
+        number,
+        kind,
+        data_place,
+        data,
+        ..
+    } = entry
+    else {
+        unreachable!("only live entries come here");
+    };
+    let type_place = place + integer(&buf[place..]).1;
+    let mut item = raw::Item {
+        number,
+        type_place,
+        data_place,
+        data_length: data.len(),
+        row: row_of(reading, integer(&buf[type_place..]).0),
+        ..plain_item(raw::ENTRY, place)
+    };
+    match kind {
+        reader::Kind::Plain => {}
+        reader::Kind::Header => item.kind = raw::HEADER,
+        reader::Kind::Assignment => {
+            let (assigned, width) = integer(data);
+            item.kind = raw::ASSIGNMENT;
+            item.assigned = assigned;
+            item.assigned_place = data_place + width;
+        }
+    }
+    item
+}
+
+/// The row of a held number. At place 0 the header is under the implied 111.
+fn row_of(reading: &raw::Reading, number: u32) -> raw::Row {
+    let rows = &reading.numbers[..reading.held];
+    match rows.iter().position(|&held| held == number) {
+        Some(row) if reading.position != 0 => raw::Row {
+            number,
+            place: reading.places[row],
+            length: reading.lengths[row],
+        },
+        _ => raw::Row {
+            number,
+            place: 0,
+            length: 0,
+        },
+    }
+}

@@ -1,0 +1,41 @@
+//! The demonstration's files: every prefix of them, and every change of one byte.
+
+use compare::files::{check, check_changes, demo};
+use compare::settings::spread;
+use compare::tally::Tally;
+
+/// Files up to this length get all 255 changes of each byte, longer ones eight.
+const SMALL: usize = 1_000;
+
+#[test]
+fn prefixes_and_changes_agree() {
+    let files = demo();
+    assert!(files.len() >= 4, "the demonstration has four files");
+    let mut tally = Tally::default();
+    for (name, file) in &files {
+        check(name.clone(), file, &mut tally);
+        for length in 0..file.len() {
+            check(
+                format!("{name} up to {length}"),
+                &file[..length],
+                &mut tally,
+            );
+        }
+        tally.join(spread(
+            file.len(),
+            |place, tally| check_changes(name, file, place, file.len() <= SMALL, tally),
+            Tally::join,
+        ));
+    }
+    let listings: u64 = (0..8).map(|column| tally.of(6, column)).sum();
+    println!(
+        "{} files, {listings} listings, {} calls\n{tally}",
+        files.len(),
+        tally.calls()
+    );
+    let bytes: usize = files.iter().map(|(_, file)| file.len()).sum();
+    assert!(
+        listings >= 8 * bytes as u64,
+        "eight changes of each byte at least"
+    );
+}

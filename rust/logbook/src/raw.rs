@@ -1,0 +1,383 @@
+//! The C interface (`include/logbook.h`), one to one: its structs, its numbers and its nine calls,
+//! over slices.
+//!
+//! Every call takes any arguments. A refused call answers the refusal's number and place and
+//! changes nothing. The crate's own types stand above this module; it is for those who want the
+//! numbers themselves, such as the tests that hold the library against another reader.
+
+/// Bytes of a header, and of a logbook that has been started.
+pub const HEADER_LENGTH: usize = 109;
+/// Bytes of a UUID, as they are (not its text).
+pub const UUID_LENGTH: usize = 16;
+/// Bytes of a header's free part.
+pub const FREE_LENGTH: usize = 60;
+/// The greatest used length.
+pub const USED_LIMIT: usize = 16_777_216;
+/// The greatest type number.
+pub const NUMBER_LIMIT: u32 = 268_435_455;
+/// The most data bytes of an entry that is appended.
+pub const DATA_LIMIT: usize = 65_535;
+/// The most bytes of a URI.
+pub const URI_LIMIT: usize = 255;
+/// Type numbers held at once.
+pub const ROWS: usize = 32;
+/// The longest file that is listed.
+pub const FILE_LIMIT: usize = 65_536;
+/// Room that a listing asks for each line.
+pub const LINE_LIMIT: usize = 320;
+
+/// An item's kind: one byte of padding.
+pub const PADDING: usize = 0;
+/// An item's kind: a deleted record.
+pub const DELETED: usize = 1;
+/// An item's kind: a live entry.
+pub const ENTRY: usize = 2;
+/// An item's kind: a header, a live entry too.
+pub const HEADER: usize = 3;
+/// An item's kind: an assignment, a live entry too.
+pub const ASSIGNMENT: usize = 4;
+/// An item's kind: the used length is reached.
+pub const END: usize = 5;
+/// An item's kind: nothing was read, see the refusal.
+pub const REFUSED: usize = 6;
+
+/// The URIs of the two numbers that a header implies, one behind the other.
+pub const IMPLIED_NAMES: &[u8; 34] = b"urn:lozizol:typeurn:lozizol:header";
+
+/// What [`start`] answers.
+#[repr(C)]
+#[derive(Clone, Copy, PartialEq, Eq, Debug)]
+pub struct Started {
+    /// 0, or the refusal's number.
+    pub refusal: usize,
+    /// The refusal's place.
+    pub place: usize,
+    /// The used length: 109, or 0 where refused.
+    pub used: usize,
+}
+
+/// What [`append`] and [`assign`] answer.
+#[repr(C)]
+#[derive(Clone, Copy, PartialEq, Eq, Debug)]
+pub struct Appended {
+    /// 0, or the refusal's number.
+    pub refusal: usize,
+    /// Where the last record written starts, or the refusal's place.
+    pub place: usize,
+    /// The used length after the call.
+    pub used: usize,
+}
+
+/// What [`erase`] answers.
+#[repr(C)]
+#[derive(Clone, Copy, PartialEq, Eq, Debug)]
+pub struct Erased {
+    /// 0, or the refusal's number.
+    pub refusal: usize,
+    /// Where the byte was stored, or the refusal's place.
+    pub place: usize,
+}
+
+/// What [`wipe`] answers.
+#[repr(C)]
+#[derive(Clone, Copy, PartialEq, Eq, Debug)]
+pub struct Wiped {
+    /// 0, or the refusal's number.
+    pub refusal: usize,
+    /// The refusal's place.
+    pub place: usize,
+    /// How many stores were made.
+    pub stores: usize,
+}
+
+/// A reading: where it stands, how many live entries it has counted, and its register.
+#[repr(C)]
+#[derive(Clone, Copy, PartialEq, Eq, Debug)]
+pub struct Reading {
+    /// The place where the next item starts.
+    pub position: usize,
+    /// Live entries so far.
+    pub count: usize,
+    /// Rows in use; the others are zero.
+    pub held: usize,
+    /// The rows' type numbers, rising.
+    pub numbers: [u32; ROWS],
+    /// Where the rows' URIs start; 0 in a row that a header implies.
+    pub places: [u32; ROWS],
+    /// The lengths of the rows' URIs; 0 in a row that a header implies.
+    pub lengths: [u32; ROWS],
+}
+
+/// A row of the register: a type number and where its URI stands.
+#[repr(C)]
+#[derive(Clone, Copy, PartialEq, Eq, Debug)]
+pub struct Row {
+    /// The type number.
+    pub number: u32,
+    /// Where the URI starts; 0 in a row that a header implies.
+    pub place: u32,
+    /// The URI's length; 0 in a row that a header implies.
+    pub length: u32,
+}
+
+/// What a step found; the fields that a kind has no use for are 0.
+#[repr(C)]
+#[derive(Clone, Copy, PartialEq, Eq, Debug)]
+pub struct Item {
+    /// [`PADDING`] to [`REFUSED`].
+    pub kind: usize,
+    /// 0, or the refusal's number.
+    pub refusal: usize,
+    /// Where the item starts; of a refusal its place.
+    pub place: usize,
+    /// A live entry's number.
+    pub number: usize,
+    /// Of a record: its first type byte.
+    pub type_place: usize,
+    /// Of a live entry: behind the type; of a deleted record: its body.
+    pub data_place: usize,
+    /// From there up to the record's end.
+    pub data_length: usize,
+    /// Of a live entry: its type number and where its URI stands; see [`uri`].
+    pub row: Row,
+    /// Of an assignment: the number that it assigns or removes.
+    pub assigned: u32,
+    /// Of an assignment: where that number's URI stands, up to the record's end.
+    pub assigned_place: usize,
+}
+
+/// What [`step`] answers.
+#[repr(C)]
+#[derive(Clone, Copy, PartialEq, Eq, Debug)]
+pub struct Step {
+    /// What was found.
+    pub item: Item,
+    /// The reading behind the item; at the end, and where refused, as it was handed in.
+    pub reading: Reading,
+}
+
+/// What [`uri`] answers.
+#[repr(C)]
+#[derive(Clone, Copy, PartialEq, Eq, Debug)]
+pub struct UriAnswer {
+    /// 0, or the refusal's number.
+    pub refusal: usize,
+    /// 1 where the URI stands in [`IMPLIED_NAMES`], 0 where it stands in the buffer.
+    pub implied: usize,
+    /// Where the URI starts.
+    pub place: usize,
+    /// The URI's length.
+    pub length: usize,
+}
+
+/// What [`list`] answers.
+#[repr(C)]
+#[derive(Clone, Copy, PartialEq, Eq, Debug)]
+pub struct Listed {
+    /// Bytes written.
+    pub length: usize,
+    /// 1 with the last line.
+    pub over: usize,
+    /// The reading to go on with.
+    pub reading: Reading,
+}
+
+mod c {
+    use super::{Appended, Erased, Listed, Reading, Row, Started, Step, UriAnswer, Wiped};
+
+    extern "C" {
+        pub fn logbook_start(
+            buf: *mut u8,
+            len: usize,
+            uuid: *const u8,
+            uuid_len: usize,
+            free_part: *const u8,
+            free_len: usize,
+        ) -> Started;
+        pub fn logbook_append(
+            buf: *mut u8,
+            len: usize,
+            used: usize,
+            uri: *const u8,
+            uri_len: usize,
+            data: *const u8,
+            data_len: usize,
+        ) -> Appended;
+        pub fn logbook_assign(
+            buf: *mut u8,
+            len: usize,
+            used: usize,
+            number: u32,
+            uri: *const u8,
+            uri_len: usize,
+        ) -> Appended;
+        pub fn logbook_erase(buf: *mut u8, len: usize, used: usize, place: usize) -> Erased;
+        pub fn logbook_wipe(
+            buf: *mut u8,
+            len: usize,
+            used: usize,
+            place: usize,
+            limit: usize,
+        ) -> Wiped;
+        pub fn logbook_fresh() -> Reading;
+        pub fn logbook_step(buf: *const u8, len: usize, used: usize, reading: Reading) -> Step;
+        pub fn logbook_uri(len: usize, used: usize, row: Row) -> UriAnswer;
+        pub fn logbook_list(
+            reading: Reading,
+            file: *const u8,
+            file_len: usize,
+            out: *mut u8,
+            out_len: usize,
+        ) -> Listed;
+    }
+}
+
+/// Starts a logbook: a header over the first 109 bytes; the others stay.
+#[inline]
+pub fn start(buf: &mut [u8], uuid: &[u8], free: &[u8]) -> Started {
+    // SAFETY: each pointer is a slice's, given with that slice's length; `buf` is borrowed alone.
+    unsafe {
+        c::logbook_start(
+            buf.as_mut_ptr(),
+            buf.len(),
+            uuid.as_ptr(),
+            uuid.len(),
+            free.as_ptr(),
+            free.len(),
+        )
+    }
+}
+
+/// Appends an entry by URI; where no number holds the URI, an assignment goes first.
+#[inline]
+pub fn append(buf: &mut [u8], used: usize, uri: &[u8], data: &[u8]) -> Appended {
+    // SAFETY: each pointer is a slice's, given with that slice's length; `buf` is borrowed alone.
+    unsafe {
+        c::logbook_append(
+            buf.as_mut_ptr(),
+            buf.len(),
+            used,
+            uri.as_ptr(),
+            uri.len(),
+            data.as_ptr(),
+            data.len(),
+        )
+    }
+}
+
+/// Assigns a type number; an empty URI removes it.
+#[inline]
+pub fn assign(buf: &mut [u8], used: usize, number: u32, uri: &[u8]) -> Appended {
+    // SAFETY: each pointer is a slice's, given with that slice's length; `buf` is borrowed alone.
+    unsafe {
+        c::logbook_assign(
+            buf.as_mut_ptr(),
+            buf.len(),
+            used,
+            number,
+            uri.as_ptr(),
+            uri.len(),
+        )
+    }
+}
+
+/// Erases the live entry that starts at a place.
+#[inline]
+pub fn erase(buf: &mut [u8], used: usize, place: usize) -> Erased {
+    // SAFETY: the pointer is the slice's, given with its length; `buf` is borrowed alone.
+    unsafe { c::logbook_erase(buf.as_mut_ptr(), buf.len(), used, place) }
+}
+
+/// Wipes the deleted record that starts at a place, by at most `limit` stores.
+#[inline]
+pub fn wipe(buf: &mut [u8], used: usize, place: usize, limit: usize) -> Wiped {
+    // SAFETY: the pointer is the slice's, given with its length; `buf` is borrowed alone.
+    unsafe { c::logbook_wipe(buf.as_mut_ptr(), buf.len(), used, place, limit) }
+}
+
+/// A fresh reading.
+#[inline]
+pub fn fresh() -> Reading {
+    // SAFETY: the call takes nothing and answers a value.
+    unsafe { c::logbook_fresh() }
+}
+
+/// Reads the item at a reading's position.
+#[inline]
+pub fn step(buf: &[u8], used: usize, reading: Reading) -> Step {
+    // SAFETY: the pointer is the slice's, given with its length, and is only read.
+    unsafe { c::logbook_step(buf.as_ptr(), buf.len(), used, reading) }
+}
+
+/// Where the URI of a row stands, for a buffer of `len` bytes.
+#[inline]
+pub fn uri(len: usize, used: usize, row: Row) -> UriAnswer {
+    // SAFETY: the call takes and answers values.
+    unsafe { c::logbook_uri(len, used, row) }
+}
+
+/// Writes the lines of a listing from a reading on, as many as `out` takes.
+#[inline]
+pub fn list(reading: Reading, file: &[u8], out: &mut [u8]) -> Listed {
+    // SAFETY: each pointer is a slice's, given with that slice's length; `out` is borrowed alone.
+    unsafe {
+        c::logbook_list(
+            reading,
+            file.as_ptr(),
+            file.len(),
+            out.as_mut_ptr(),
+            out.len(),
+        )
+    }
+}
+
+/// The structs' sizes and the places of their fields, as a C compiler has them.
+mod layout {
+    use super::{
+        Appended, Erased, Item, Listed, Reading, Row, Started, Step, UriAnswer, Wiped, ROWS,
+    };
+    use std::mem::{offset_of, size_of};
+
+    const WORD: usize = size_of::<usize>();
+
+    const _: () = assert!(size_of::<Started>() == 3 * WORD);
+    const _: () = assert!(offset_of!(Started, used) == 2 * WORD);
+    const _: () = assert!(size_of::<Appended>() == 3 * WORD);
+    const _: () = assert!(offset_of!(Appended, used) == 2 * WORD);
+    const _: () = assert!(size_of::<Erased>() == 2 * WORD);
+    const _: () = assert!(offset_of!(Erased, place) == WORD);
+    const _: () = assert!(size_of::<Wiped>() == 3 * WORD);
+    const _: () = assert!(offset_of!(Wiped, stores) == 2 * WORD);
+
+    const _: () = assert!(size_of::<Reading>() == 3 * WORD + 3 * 4 * ROWS);
+    const _: () = assert!(offset_of!(Reading, count) == WORD);
+    const _: () = assert!(offset_of!(Reading, held) == 2 * WORD);
+    const _: () = assert!(offset_of!(Reading, numbers) == 3 * WORD);
+    const _: () = assert!(offset_of!(Reading, places) == 3 * WORD + 4 * ROWS);
+    const _: () = assert!(offset_of!(Reading, lengths) == 3 * WORD + 8 * ROWS);
+
+    const _: () = assert!(size_of::<Row>() == 12);
+    const _: () = assert!(offset_of!(Row, place) == 4);
+    const _: () = assert!(offset_of!(Row, length) == 8);
+
+    const _: () = assert!(size_of::<Item>() == 8 * WORD + 16);
+    const _: () = assert!(offset_of!(Item, kind) == 0);
+    const _: () = assert!(offset_of!(Item, refusal) == WORD);
+    const _: () = assert!(offset_of!(Item, place) == 2 * WORD);
+    const _: () = assert!(offset_of!(Item, number) == 3 * WORD);
+    const _: () = assert!(offset_of!(Item, type_place) == 4 * WORD);
+    const _: () = assert!(offset_of!(Item, data_place) == 5 * WORD);
+    const _: () = assert!(offset_of!(Item, data_length) == 6 * WORD);
+    const _: () = assert!(offset_of!(Item, row) == 7 * WORD);
+    const _: () = assert!(offset_of!(Item, assigned) == 7 * WORD + 12);
+    const _: () = assert!(offset_of!(Item, assigned_place) == 7 * WORD + 16);
+
+    const _: () = assert!(offset_of!(Step, reading) == size_of::<Item>());
+    const _: () = assert!(size_of::<Step>() == size_of::<Item>() + size_of::<Reading>());
+    const _: () = assert!(size_of::<UriAnswer>() == 4 * WORD);
+    const _: () = assert!(offset_of!(UriAnswer, implied) == WORD);
+    const _: () = assert!(offset_of!(UriAnswer, place) == 2 * WORD);
+    const _: () = assert!(offset_of!(UriAnswer, length) == 3 * WORD);
+    const _: () = assert!(offset_of!(Listed, reading) == 2 * WORD);
+    const _: () = assert!(size_of::<Listed>() == 2 * WORD + size_of::<Reading>());
+}

@@ -1,0 +1,203 @@
+//! The thirteen refusals.
+
+use crate::Place;
+use std::fmt;
+
+/// Why a call was refused. A refused call has changed nothing.
+///
+/// The order is that of the numbers, 1 to 13. [`Display`](fmt::Display) gives its sentence.
+///
+/// ```
+/// use logbook::{Place, Refusal};
+///
+/// let refusal = Refusal::NotHeld { place: Place(123) };
+/// assert_eq!(refusal.number(), 6);
+/// assert_eq!(refusal.place(), Some(Place(123)));
+/// assert_eq!(
+///     refusal.to_string(),
+///     "refusal 6 at place 123: the record that starts there has a type number that isn't held"
+/// );
+/// ```
+#[derive(Clone, Copy, PartialEq, Eq, Hash, Debug)]
+pub enum Refusal {
+    /// 1: the used length is over the buffer's, or over 16,777,216.
+    UsedLength,
+    /// 2: a record isn't whole at the used length.
+    Incomplete {
+        /// Where the record starts.
+        place: Place,
+    },
+    /// 3: a header hasn't the header's form.
+    NotHeader {
+        /// Where the header starts.
+        place: Place,
+    },
+    /// 4: a broken integer, or a type past its size.
+    Broken {
+        /// Where the record starts.
+        place: Place,
+    },
+    /// 5: an assignment's data is missing or broken, its number is 0, or its URI isn't allowed.
+    BadAssignment {
+        /// Where the record starts.
+        place: Place,
+    },
+    /// 6: a record's type number isn't held.
+    NotHeld {
+        /// Where the record starts.
+        place: Place,
+    },
+    /// 7: 32 type numbers are held and a further one is assigned.
+    RegisterFull {
+        /// Where the record starts; of a call that writes, the used length.
+        place: Place,
+    },
+    /// 8: erase: no live entry starts there; wipe: no deleted record does.
+    NothingThere {
+        /// The asked place.
+        place: Place,
+    },
+    /// 9: a header or an assignment is never erased.
+    Fixed {
+        /// The asked place.
+        place: Place,
+    },
+    /// 10: the data is too long, the URI isn't allowed, the number is 0 or too great, or the UUID
+    /// or the free part has another length.
+    BadRequest,
+    /// 11: an assignment is needed, and no number holds urn:lozizol:type.
+    NoTypeNumber,
+    /// 12: the records don't fit the buffer or the limit.
+    NoRoom {
+        /// The used length; of [`Logbook::start`](crate::Logbook::start), 0.
+        place: Place,
+    },
+    /// 13: the reading that was handed in doesn't fit.
+    NotFitting,
+}
+
+impl Refusal {
+    /// The refusal of a number, 1 to 13; the place counts only where this refusal names one.
+    pub fn from_number(number: usize, place: Place) -> Option<Refusal> {
+        Some(match number {
+            1 => Refusal::UsedLength,
+            2 => Refusal::Incomplete { place },
+            3 => Refusal::NotHeader { place },
+            4 => Refusal::Broken { place },
+            5 => Refusal::BadAssignment { place },
+            6 => Refusal::NotHeld { place },
+            7 => Refusal::RegisterFull { place },
+            8 => Refusal::NothingThere { place },
+            9 => Refusal::Fixed { place },
+            10 => Refusal::BadRequest,
+            11 => Refusal::NoTypeNumber,
+            12 => Refusal::NoRoom { place },
+            13 => Refusal::NotFitting,
+            _ => return None,
+        })
+    }
+
+    /// The refusal's number, 1 to 13.
+    pub fn number(&self) -> usize {
+        match self {
+            Refusal::UsedLength => 1,
+            Refusal::Incomplete { .. } => 2,
+            Refusal::NotHeader { .. } => 3,
+            Refusal::Broken { .. } => 4,
+            Refusal::BadAssignment { .. } => 5,
+            Refusal::NotHeld { .. } => 6,
+            Refusal::RegisterFull { .. } => 7,
+            Refusal::NothingThere { .. } => 8,
+            Refusal::Fixed { .. } => 9,
+            Refusal::BadRequest => 10,
+            Refusal::NoTypeNumber => 11,
+            Refusal::NoRoom { .. } => 12,
+            Refusal::NotFitting => 13,
+        }
+    }
+
+    /// The refusal's place; 1, 10, 11 and 13 name none.
+    pub fn place(&self) -> Option<Place> {
+        match *self {
+            Refusal::Incomplete { place }
+            | Refusal::NotHeader { place }
+            | Refusal::Broken { place }
+            | Refusal::BadAssignment { place }
+            | Refusal::NotHeld { place }
+            | Refusal::RegisterFull { place }
+            | Refusal::NothingThere { place }
+            | Refusal::Fixed { place }
+            | Refusal::NoRoom { place } => Some(place),
+            Refusal::UsedLength
+            | Refusal::BadRequest
+            | Refusal::NoTypeNumber
+            | Refusal::NotFitting => None,
+        }
+    }
+
+    fn reason(&self) -> &'static str {
+        match self {
+            Refusal::UsedLength => {
+                "the used length is over the buffer's length or over 16,777,216 bytes"
+            }
+            Refusal::Incomplete { .. } => {
+                "the record that starts there isn't whole at the used length"
+            }
+            Refusal::NotHeader { .. } => "the header that starts there hasn't the header's form",
+            Refusal::Broken { .. } => {
+                "the record that starts there has a broken integer, \
+                 or a type that goes past its size"
+            }
+            Refusal::BadAssignment { .. } => {
+                "the assignment that starts there has no number, a broken one or 0, \
+                 or a URI that isn't allowed"
+            }
+            Refusal::NotHeld { .. } => {
+                "the record that starts there has a type number that isn't held"
+            }
+            Refusal::RegisterFull { .. } => {
+                "a further type number is to be assigned there, and 32 are held already"
+            }
+            Refusal::NothingThere { .. } => {
+                "no live entry starts there that could be erased, \
+                 or no deleted record that could be wiped"
+            }
+            Refusal::Fixed { .. } => {
+                "a header or an assignment starts there, and neither is ever erased"
+            }
+            Refusal::BadRequest => {
+                "the request asks for data over 65,535 bytes, a URI that isn't allowed, \
+                 a number that is 0 or over 268,435,455, or a UUID or free part of another length"
+            }
+            Refusal::NoTypeNumber => {
+                "an assignment is needed, and no type number holds urn:lozizol:type"
+            }
+            Refusal::NoRoom { .. } => {
+                "the records don't fit there: the buffer ends, \
+                 or the limit of 16,777,216 bytes is reached"
+            }
+            Refusal::NotFitting => "the reading doesn't fit these bytes and this used length",
+        }
+    }
+}
+
+impl fmt::Display for Refusal {
+    fn fmt(&self, out: &mut fmt::Formatter<'_>) -> fmt::Result {
+        write!(out, "refusal {}", self.number())?;
+        if let Some(place) = self.place() {
+            write!(out, " at place {place}")?;
+        }
+        write!(out, ": {}", self.reason())
+    }
+}
+
+impl std::error::Error for Refusal {}
+
+/// What a C answer's number and place say: 0 is no refusal.
+pub(crate) fn judged(number: usize, place: usize) -> Result<(), Refusal> {
+    if number == 0 {
+        return Ok(());
+    }
+    // The header has no number past 13.
+    Err(Refusal::from_number(number, Place(place)).unwrap_or(Refusal::NotFitting))
+}

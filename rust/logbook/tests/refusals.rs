@@ -1,0 +1,220 @@
+//! Each refusal, as a call gives it, and its sentence.
+
+mod common;
+
+use common::{morning, FREE, UUID};
+use logbook::{check, Logbook, Place, Reading, Refusal};
+
+/// What a check says of a header with these bytes behind it.
+fn behind_header(rest: &[u8]) -> Refusal {
+    let mut buffer = vec![0; 109];
+    Logbook::start(&mut buffer, &UUID, &FREE).expect("a header fits");
+    buffer.extend_from_slice(rest);
+    check(&buffer).expect_err("the rest is faulty")
+}
+
+/// A number, a place and a sentence, of one refusal.
+#[track_caller]
+fn says(refusal: Refusal, number: usize, place: Option<usize>, reason: &str) {
+    let place = place.map(Place);
+    assert_eq!((refusal.number(), refusal.place()), (number, place));
+    let at = place.map_or(String::new(), |place| format!(" at place {place}"));
+    assert_eq!(
+        refusal.to_string(),
+        format!("refusal {number}{at}: {reason}")
+    );
+    let found = Refusal::from_number(number, place.unwrap_or(Place(0)));
+    assert_eq!(found, Some(refusal));
+}
+
+#[test]
+fn used_length() {
+    let refusal = Logbook::open(&mut [0; 8], 9).unwrap_err();
+    says(
+        refusal,
+        1,
+        None,
+        "the used length is over the buffer's length or over 16,777,216 bytes",
+    );
+    let mut long = vec![0; 16_777_217];
+    assert!(Logbook::open(&mut long, 16_777_216).is_ok());
+    assert_eq!(Logbook::open(&mut long, 16_777_217).unwrap_err(), refusal);
+    assert_eq!(check(&long), Err(refusal));
+}
+
+#[test]
+fn incomplete() {
+    let reason = "the record that starts there isn't whole at the used length";
+    says(behind_header(b"\x03\x02P"), 2, Some(109), reason);
+    says(check(b"").unwrap_err(), 2, Some(0), reason);
+}
+
+#[test]
+fn not_header() {
+    says(
+        check(&[0; 109]).unwrap_err(),
+        3,
+        Some(0),
+        "the header that starts there hasn't the header's form",
+    );
+}
+
+#[test]
+fn broken() {
+    let reason =
+        "the record that starts there has a broken integer, or a type that goes past its size";
+    says(behind_header(b"\x80\x11"), 4, Some(109), reason);
+    says(behind_header(b"\0\x01\x81"), 4, Some(110), reason);
+}
+
+#[test]
+fn bad_assignment() {
+    let reason = "the assignment that starts there has no number, a broken one or 0, \
+                  or a URI that isn't allowed";
+    for rest in [&b"\x01\x01"[..], b"\x02\x01\x00", b"\x04\x01\x02:a"] {
+        says(behind_header(rest), 5, Some(109), reason);
+    }
+}
+
+#[test]
+fn not_held() {
+    let reason = "the record that starts there has a type number that isn't held";
+    says(behind_header(b"\x03\x02P7"), 6, Some(109), reason);
+}
+
+#[test]
+fn register_full() -> Result<(), Refusal> {
+    let mut buffer = [0; 400];
+    let mut log = Logbook::start(&mut buffer, &UUID, &FREE)?;
+    for number in 2..=31 {
+        log.assign(number, "a:")?;
+    }
+    let used = log.used();
+    let refusal = log.append("urn:ep:2010", "P7").unwrap_err();
+    let reason = "a further type number is to be assigned there, and 32 are held already";
+    says(refusal, 7, Some(used), reason);
+    assert_eq!(log.assign(32, "a:"), Err(refusal));
+    assert_eq!(log.used(), used);
+
+    // Removing one makes room; a held number may be reassigned, and any removed.
+    log.assign(31, "b:")?;
+    log.remove(77)?;
+    log.remove(31)?;
+    log.append("urn:ep:2010", "P7")?;
+    Ok(())
+}
+
+#[test]
+fn nothing_there_and_fixed() -> Result<(), Refusal> {
+    let mut buffer = [0; 200];
+    let mut log = morning(&mut buffer)?;
+    let before = log.bytes().to_vec();
+    let reason = "no live entry starts there that could be erased, \
+                  or no deleted record that could be wiped";
+    for place in [1, 124, 145, usize::MAX] {
+        says(log.erase(Place(place)).unwrap_err(), 8, Some(place), reason);
+        says(
+            log.wipe_all(Place(place)).unwrap_err(),
+            8,
+            Some(place),
+            reason,
+        );
+    }
+    says(log.wipe(Place(0), 0).unwrap_err(), 8, Some(0), reason);
+    let reason = "a header or an assignment starts there, and neither is ever erased";
+    for place in [0, 109, 127] {
+        says(log.erase(Place(place)).unwrap_err(), 9, Some(place), reason);
+    }
+    assert_eq!(log.bytes(), before);
+    Ok(())
+}
+
+#[test]
+fn bad_request() -> Result<(), Refusal> {
+    let mut buffer = vec![0; 70_000];
+    let mut log = Logbook::start(&mut buffer, &UUID, &FREE)?;
+    let long_uri = format!("a:{}", "b".repeat(254));
+    let requests = [
+        log.append("", "P7"),
+        log.append("urn:lozizol:type", "P7"),
+        log.append("urn:lozizol:header", "P7"),
+        log.append("urn:lozizol:deleted", "P7"),
+        log.append("urn ep", "P7"),
+        log.append(b"urn:\xFF", "P7"),
+        log.append(&long_uri, "P7"),
+        log.append("a:", vec![0; 65_536]),
+        log.assign(0, "a:"),
+        log.assign(268_435_456, "a:"),
+        log.assign(2, "urn:lozizol:header"),
+        log.remove(0),
+        log.remove(u32::MAX),
+    ];
+    let reason = "the request asks for data over 65,535 bytes, a URI that isn't allowed, \
+                  a number that is 0 or over 268,435,455, or a UUID or free part of another length";
+    for answer in requests {
+        says(answer.unwrap_err(), 10, None, reason);
+    }
+    log.append(&long_uri[..255], vec![0; 65_535])?;
+    log.assign(268_435_455, "urn:lozizol:type")?;
+    Ok(())
+}
+
+#[test]
+fn no_type_number() -> Result<(), Refusal> {
+    let mut buffer = [0; 200];
+    let mut log = Logbook::start(&mut buffer, &UUID, &FREE)?;
+    log.remove(1)?;
+    let reason = "an assignment is needed, and no type number holds urn:lozizol:type";
+    says(log.append("a:", "").unwrap_err(), 11, None, reason);
+    says(log.remove(2).unwrap_err(), 11, None, reason);
+    Ok(())
+}
+
+#[test]
+fn no_room() -> Result<(), Refusal> {
+    let reason = "the records don't fit there: the buffer ends, \
+                  or the limit of 16,777,216 bytes is reached";
+    let refusal = Logbook::start(&mut [0; 108], &UUID, &FREE).unwrap_err();
+    says(refusal, 12, Some(0), reason);
+    // The assignment alone would fit.
+    let mut buffer = [0; 126];
+    let mut log = Logbook::start(&mut buffer, &UUID, &FREE)?;
+    let refusal = log.append("urn:ep:2010", "P7").unwrap_err();
+    says(refusal, 12, Some(109), reason);
+    assert_eq!(log.used(), 109);
+    Ok(())
+}
+
+#[test]
+fn not_fitting() -> Result<(), Refusal> {
+    let mut buffer = [0; 200];
+    let log = morning(&mut buffer)?;
+    let mut reading = Reading::fresh();
+    while let Some((_, next)) = log.step(&reading)? {
+        reading = next;
+    }
+    let refusal = reading.step(log.bytes(), 144).unwrap_err();
+    let reason = "the reading doesn't fit these bytes and this used length";
+    says(refusal, 13, None, reason);
+    Ok(())
+}
+
+#[test]
+fn a_refusal_ends_the_items() -> Result<(), Refusal> {
+    let mut buffer = [0; 200];
+    let log = morning(&mut buffer)?;
+    let refusal = Refusal::Incomplete { place: Place(141) };
+    let torn = &log.bytes()[..144];
+    let mut items = logbook::items(torn).skip(4);
+    assert_eq!(items.next(), Some(Err(refusal)));
+    assert_eq!(items.next(), None);
+    assert_eq!(logbook::entries(torn).count(), 5);
+    Ok(())
+}
+
+#[test]
+fn there_are_thirteen() {
+    assert_eq!(Refusal::from_number(0, Place(0)), None);
+    assert_eq!(Refusal::from_number(14, Place(0)), None);
+    assert_eq!(Refusal::from_number(usize::MAX, Place(0)), None);
+}

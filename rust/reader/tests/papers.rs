@@ -1,0 +1,663 @@
+//! The cases of paper 01, run through the public calls.
+
+use reader::*;
+
+const UUID: [u8; 16] = [
+    0x03, 0x93, 0x43, 0xBB, 0x90, 0x19, 0x4D, 0x6E, 0x82, 0x5E, 0x63, 0x1A, 0xA5, 0x78, 0xFF, 0x7F,
+];
+
+/// A header and then these bytes.
+fn book(parts: &[&[u8]]) -> Vec<u8> {
+    let mut buf = vec![0; 109];
+    assert_eq!(start(&mut buf, &UUID, &[b'.'; 60]), Ok(109));
+    buf.extend(parts.concat());
+    buf
+}
+
+fn morning() -> Vec<u8> {
+    book(&[
+        b"\x0D\x01\x02urn:ep:2010",
+        b"\x03\x02P7",
+        b"\x0D\x01\x02urn:ep:2017",
+        b"\x03\x02P8",
+    ])
+}
+
+fn text(file: &[u8]) -> String {
+    String::from_utf8(listing(file)).unwrap()
+}
+
+/// The steps of a fresh reading, up to its end or its refusal.
+fn items(log: &[u8]) -> (Vec<Item<'_>>, Reading, Option<Refusal>) {
+    let (mut list, mut reading) = (Vec::new(), Reading::fresh());
+    loop {
+        let (answer, next) = reading.step(log, log.len());
+        match answer {
+            Err(refusal) => {
+                assert_eq!(next, reading);
+                return (list, reading, Some(refusal));
+            }
+            Ok(Item::End { place }) => {
+                assert_eq!((place, &next), (log.len(), &reading));
+                return (list, reading, None);
+            }
+            Ok(item) => list.push(item),
+        }
+        reading = next;
+    }
+}
+
+/// The live entries: place, URI, data.
+fn entries(log: &[u8]) -> Vec<(usize, Vec<u8>, Vec<u8>)> {
+    let (list, _, refusal) = items(log);
+    assert_eq!(refusal, None);
+    let live = list.iter().filter_map(|item| match item {
+        Item::Entry {
+            place, uri, data, ..
+        } => Some((*place, uri.to_vec(), data.to_vec())),
+        _ => None,
+    });
+    live.collect()
+}
+
+fn refused<T>(number: u8, place: usize) -> Result<T, Refusal> {
+    Err(Refusal { number, place })
+}
+
+/// How the reading of a header and then these bytes is refused.
+fn refusal_of(bytes: &[u8]) -> Option<(u8, usize)> {
+    let log = book(&[bytes]);
+    let (_, _, refusal) = items(&log);
+    let mut buf = log.clone();
+    let appended = append(&mut buf, log.len(), b"a:", b"");
+    if let Some(refusal) = refusal {
+        assert_eq!(appended, Err(refusal));
+        assert_eq!(
+            erase(&mut buf, log.len(), usize::MAX),
+            refused(refusal.number, refusal.place)
+        );
+        let last = format!("refused\t{}\t{}\n", refusal.number, refusal.place);
+        assert!(text(&log).ends_with(&last));
+        assert_eq!(buf, log);
+    }
+    refusal.map(|refusal| (refusal.number, refusal.place))
+}
+
+/// `count` assignments of the numbers from `first` up, all to "a:".
+fn many(first: u8, count: u8) -> Vec<u8> {
+    (first..first + count)
+        .flat_map(|number| [4, 1, number, b'a', b':'])
+        .collect()
+}
+
+#[test]
+fn the_header() {
+    let mut buf = [0xAA; 111];
+    assert_eq!(start(&mut buf, &UUID, &[7; 60]), Ok(109));
+    let front = b"lozizol 0.5 039343bb-9019-4d6e-825e-631aa578ff7f ";
+    assert_eq!(&buf[..49], front);
+    assert_eq!(&buf[49..], [[7; 60].as_slice(), &[0xAA; 2]].concat());
+    for (uuid, free) in [(15, 60), (17, 60), (16, 59), (16, 61)] {
+        assert_eq!(
+            start(&mut [], &vec![0; uuid], &vec![0; free]),
+            refused(10, 0)
+        );
+    }
+    let mut short = [0xAA; 108];
+    assert_eq!(start(&mut short, &UUID, &[7; 60]), refused(12, 0));
+    assert_eq!(short, [0xAA; 108]);
+
+    // At place 0 only 2 and 3 are known, used length 0 included.
+    let good = book(&[]);
+    for used in [0, 1, 108] {
+        let (answer, next) = Reading::fresh().step(&good, used);
+        assert_eq!((answer, next), (refused(2, 0), Reading::fresh()));
+    }
+    for place in (0..49).filter(|place| !(12..48).contains(place)) {
+        let mut bad = good.clone();
+        bad[place] ^= 0x80;
+        assert_eq!(
+            items(&bad).2,
+            Some(Refusal {
+                number: 3,
+                place: 0
+            })
+        );
+    }
+    for (place, byte, fine) in [
+        (12, b'F', true),
+        (12, b'g', false),
+        (12, b'-', false),
+        (20, b'0', false),
+        (47, b'a', true),
+        (108, 0, true),
+    ] {
+        let mut other = good.clone();
+        other[place] = byte;
+        assert_eq!(items(&other).2.is_none(), fine, "{place} {byte}");
+    }
+    assert_eq!(text(&[&[0], &good[..]].concat()), "refused\t3\t0\n");
+    assert_eq!(text(&[]), "refused\t2\t0\n");
+}
+
+#[test]
+fn m1_to_m10_as_sizes_and_types() {
+    assert_eq!(refusal_of(&[0]), None); // M1: padding
+    for (size, length) in [
+        (&b"\x7F"[..], 127), // M2 to M5: that many bytes, and no fewer
+        (b"\x81\x00", 128),
+        (b"\xFF\x7F", 16_383),
+        (b"\x81\x80\x00", 16_384),
+    ] {
+        let bytes = [size, &vec![0; length]].concat();
+        assert_eq!(refusal_of(&bytes), None);
+        assert_eq!(refusal_of(&bytes[..bytes.len() - 1]), Some((2, 109)));
+    }
+    for (bytes, refusal) in [
+        (&b"\x87\xFF\xFF\x7F"[..], (2, 109)), // M6, M7: sound but too long
+        (b"\xFF\xFF\xFF\x7F", (2, 109)),
+        (b"\x80\x11", (4, 109)), // M8
+        (b"\x80", (4, 109)),
+        (b"\x81", (2, 109)), // M9
+        (b"\xFF\xFF\xFF", (2, 109)),
+        (b"\xFF\xFF\xFF\xFF", (4, 109)), // M10
+        (b"\x00\x02\x80\x01", (4, 110)), // the type: the same, and past its size
+        (b"\x04\xFF\xFF\xFF\xFF", (4, 109)),
+        (b"\x01\x81\x05", (4, 109)),
+        (b"\x04\x80", (2, 109)), // incomplete before the type is looked at
+    ] {
+        assert_eq!(refusal_of(bytes), Some(refusal), "{bytes:?}");
+    }
+}
+
+#[test]
+fn m11_the_mornings_file() {
+    let lines = "0\t1\turn:lozizol:header\t107\n109\t2\turn:lozizol:type\t12\n\
+                 123\t3\turn:ep:2010\t2\n127\t4\turn:lozizol:type\t12\n\
+                 141\t5\turn:ep:2017\t2\nend\t145\n";
+    assert_eq!(text(&morning()), lines);
+
+    // The same, by the calls; the bytes past the used length stay.
+    let mut buf = book(&[&[0xAA; 50]]);
+    let mut used = 109;
+    for (answer, place, end) in [
+        (append(&mut buf, used, b"urn:ep:2010", b"P7"), 123, 127),
+        (assign(&mut buf, 127, 2, b"urn:ep:2017"), 127, 141),
+        (append(&mut buf, 141, b"urn:ep:2017", b"P8"), 141, 145),
+    ] {
+        assert_eq!(answer, Ok(Appended { place, used: end }));
+        used = end;
+    }
+    assert_eq!(buf[..used], morning());
+    assert_eq!(buf[used..], [0xAA; 14]);
+
+    let log = morning();
+    let (list, reading, _) = items(&log);
+    let entry = Item::Entry {
+        place: 141,
+        number: 5,
+        kind: Kind::Plain,
+        uri: b"urn:ep:2017",
+        data_place: 143,
+        data: b"P8",
+    };
+    assert_eq!(list[4], entry);
+    assert!(matches!(
+        list[0],
+        Item::Entry {
+            place: 0,
+            number: 1,
+            kind: Kind::Header,
+            data_place: 2,
+            ..
+        }
+    ));
+    let row = |number, implied, place, length| Row {
+        number,
+        implied,
+        place,
+        length,
+    };
+    let rows = [
+        row(1, true, 0, 0),
+        row(2, false, 130, 11),
+        row(111, true, 0, 0),
+    ];
+    assert_eq!((reading.position, reading.count, reading.held), (145, 5, 3));
+    assert_eq!(reading.rows[..3], rows);
+    assert!(reading.rows[3..].iter().all(|row| *row == Row::default()));
+}
+
+#[test]
+fn m12_erased_and_wiped() {
+    let mut buf = morning();
+    assert_eq!(wipe(&mut buf, 145, 123, 9), refused(8, 123));
+    assert_eq!(erase(&mut buf, 145, 123), Ok(124));
+    assert_eq!(&buf[123..127], b"\x03\0P7");
+    let list = entries(&buf);
+    assert_eq!(erase(&mut buf, 145, 123), refused(8, 123));
+    assert_eq!(wipe(&mut buf, 145, 123, 0), Ok(0));
+    for bytes in [b"\x03\0\x007", b"\x03\0\0\0", b"\0\0\0\0"] {
+        assert_eq!(wipe(&mut buf, 145, 123, 1), Ok(1));
+        assert_eq!(&buf[123..127], bytes);
+        assert_eq!(entries(&buf), list);
+    }
+    assert_eq!(wipe(&mut buf, 145, 123, 1), refused(8, 123));
+    let lines = "0\t1\turn:lozizol:header\t107\n109\t2\turn:lozizol:type\t12\n\
+                 127\t3\turn:lozizol:type\t12\n141\t4\turn:ep:2017\t2\nend\t145\n";
+    assert_eq!(text(&buf), lines);
+
+    let mut whole = morning();
+    erase(&mut whole, 145, 123).unwrap();
+    assert_eq!(wipe(&mut whole, 145, 123, usize::MAX), Ok(3));
+    assert_eq!(whole, buf);
+}
+
+#[test]
+fn refusals_of_a_record() {
+    let header = book(&[]);
+    let mut later = header.clone();
+    later[20] = b'x';
+    let full = many(2, 30);
+    type Case<'a> = (&'a [u8], Option<(u8, usize)>);
+    let cases: [Case; 22] = [
+        (b"\x01\x02", Some((6, 109))),
+        (b"\x02\x00\x80", None), // deleted, whatever its data
+        (&header, None),
+        (&later, Some((3, 109))),
+        (b"\x01\x6F", Some((3, 109))),
+        (b"\x6C\x6F", Some((2, 109))),
+        (b"\x01\x01", Some((5, 109))),         // data missing
+        (b"\x02\x01\x81", Some((5, 109))),     // not over
+        (b"\x03\x01\x80\x01", Some((5, 109))), // broken
+        (b"\x04\x01\x00a:", Some((5, 109))),   // number 0
+        (b"\x02\x01\x00", Some((5, 109))),     // removal of number 0
+        (b"\x03\x01\x02a", Some((5, 109))),    // not allowed
+        (b"\x04\x01\x02a:", None),             // allowed
+        (b"\x02\x01\x02", None),               // removal of a number not held
+        (b"\x15\x01\x02urn:lozizol:deleted", Some((5, 109))),
+        (b"\x14\x01\x02urn:lozizol:header", Some((5, 109))),
+        (b"\x14\x01\x6Furn:lozizol:header\x01\x6F", Some((3, 130))),
+        (b"\x02\x01\x6F\x01\x6F", Some((6, 112))), // 111 removed
+        (b"\x07\x01\xFF\xFF\xFF\x7Fa:", None),
+        (&[&full[..], b"\x04\x01\x20a:"].concat(), Some((7, 259))),
+        (&[&full[..], b"\x04\x01\x1Fa:\x02\x01\x20"].concat(), None),
+        (&[&full[..], b"\x02\x01\x05\x04\x01\x20a:"].concat(), None),
+    ];
+    for (bytes, refusal) in cases {
+        assert_eq!(refusal_of(bytes), refusal, "{bytes:?}");
+    }
+    // A later header empties the register.
+    let reset = [&many(2, 9)[..], &header, b"\x01\x02"].concat();
+    assert_eq!(refusal_of(&reset), Some((6, 109 + 45 + 109)));
+}
+
+#[test]
+fn refusals_of_a_request() {
+    // 1 before all, 10 before the walk.
+    let mut bad = vec![0; 20];
+    let long = [b'a'; 256];
+    for used in [21, usize::MAX] {
+        assert_eq!(append(&mut bad, used, b"", b""), refused(1, 0));
+        assert_eq!(assign(&mut bad, used, 0, b""), refused(1, 0));
+        assert_eq!(erase(&mut bad, used, 0), refused(1, 0));
+        assert_eq!(wipe(&mut bad, used, 0, 0), refused(1, 0));
+        assert_eq!(Reading::fresh().step(&bad, used).0, refused(1, 0));
+    }
+    for uri in [
+        &b""[..],
+        b"a",
+        &long,
+        b"urn:lozizol:type",
+        b"urn:lozizol:header",
+        b"urn:lozizol:deleted",
+    ] {
+        assert_eq!(append(&mut bad, 20, uri, b""), refused(10, 0));
+    }
+    assert_eq!(append(&mut bad, 20, b"a:", &[0; 65_536]), refused(10, 0));
+    assert_eq!(append(&mut bad, 20, b"a:", &[0; 65_535]), refused(2, 0));
+    for (number, uri) in [
+        (0, &b""[..]),
+        (0, b"a:"),
+        (268_435_456, b""),
+        (u32::MAX, b"a:"),
+        (2, b"a"),
+        (111, b"urn:lozizol:deleted"),
+        (110, b"urn:lozizol:header"),
+    ] {
+        assert_eq!(assign(&mut bad, 20, number, uri), refused(10, 0));
+    }
+    assert_eq!(assign(&mut bad, 20, 268_435_455, b""), refused(2, 0));
+    assert_eq!(text(&[b'l'; 65_537]), "refused\t1\t0\n");
+    assert_eq!(text(&[b'l'; 65_536]), "refused\t3\t0\n");
+
+    // 8 and 9.
+    let mut buf = morning();
+    for place in [1, 108, 110, 124, 144, 145, 146, usize::MAX] {
+        assert_eq!(erase(&mut buf, 145, place), refused(8, place));
+        assert_eq!(wipe(&mut buf, 145, place, 1), refused(8, place));
+    }
+    for place in [0, 109, 127] {
+        assert_eq!(erase(&mut buf, 145, place), refused(9, place));
+        assert_eq!(wipe(&mut buf, 145, place, 1), refused(8, place));
+    }
+    assert_eq!(buf, morning());
+    // The walk's refusal comes before 8, but only up to the asked place.
+    assert_eq!(erase(&mut buf, 144, 142), refused(2, 141));
+    assert_eq!(erase(&mut buf, 144, 140), refused(8, 140));
+    assert_eq!(erase(&mut buf, 144, 123), Ok(124));
+
+    // 12, and both records or neither.
+    let mut tight = book(&[&[0xAA; 9]]);
+    let before = tight.clone();
+    assert_eq!(append(&mut tight, 109, b"a:", b"abc"), refused(12, 109));
+    assert_eq!(assign(&mut tight, 109, 2, b"abcdef:"), refused(12, 109));
+    assert_eq!(tight, before);
+    let fits = Appended {
+        place: 114,
+        used: 118,
+    };
+    assert_eq!(append(&mut tight, 109, b"a:", b"ab"), Ok(fits));
+    assert_eq!(&tight[109..], b"\x04\x01\x02a:\x03\x02ab");
+
+    // 11: nothing holds urn:lozizol:type; then only held URIs can be used.
+    let mut none = book(&[b"\x04\x01\x02a:\x02\x01\x01", &[0; 9]]);
+    assert_eq!(append(&mut none, 117, b"b:", b""), refused(11, 0));
+    assert_eq!(assign(&mut none, 117, 3, b""), refused(11, 0));
+    assert!(append(&mut none, 117, b"a:", b"").is_ok());
+    // 7 for the request, and 11 before 7.
+    let mut full = book(&[&many(2, 30), &[0; 9]]);
+    assert_eq!(append(&mut full, 259, b"b:", b""), refused(7, 259));
+    assert_eq!(assign(&mut full, 259, 33, b"b:"), refused(7, 259));
+    assert!(assign(&mut full, 259, 33, b"").is_ok());
+    assert!(assign(&mut full, 259, 31, b"b:").is_ok());
+    let mut both = book(&[&many(2, 30), b"\x02\x01\x20\x04\x01\x01a:", &[0; 9]]);
+    assert_eq!(append(&mut both, 267, b"b:", b""), refused(11, 0));
+    assert_eq!(assign(&mut both, 267, 40, b"b:"), refused(11, 0));
+}
+
+#[test]
+fn readings_that_do_not_fit() {
+    let log = morning();
+    let (_, end, _) = items(&log);
+    assert_eq!(end.step(&log, 145).0, Ok(Item::End { place: 145 }));
+    assert_eq!(end.step(&log, 144).0, refused(13, 0));
+    let changes: [fn(&mut Reading); 17] = [
+        |r| r.position = usize::MAX,
+        |r| r.count = 146,
+        |r| r.held = 33,
+        |r| r.held = usize::MAX,
+        |r| r.held = 2,
+        |r| r.held = 4,
+        |r| r.rows[31].length = 1,
+        |r| r.rows[31].implied = true,
+        |r| r.rows[0].number = 2,
+        |r| r.rows[0].place = 1,
+        |r| r.rows[1].implied = true,
+        |r| r.rows[1].length = 0,
+        |r| r.rows[1].place = u32::MAX,
+        |r| r.rows[1].place = 135,
+        |r| r.rows[1].number = 112,
+        |r| {
+            (r.held, r.rows[3]) = (
+                4,
+                Row {
+                    number: 268_435_456,
+                    length: 1,
+                    ..Row::default()
+                },
+            )
+        },
+        |r| (r.rows[1].place, r.rows[1].length) = (u32::MAX, u32::MAX),
+    ];
+    for (index, change) in changes.iter().enumerate() {
+        let mut odd = end.clone();
+        change(&mut odd);
+        assert_eq!(odd.step(&log, 145), (refused(13, 0), odd), "{index}");
+    }
+    let mut lone = Reading::fresh();
+    (lone.held, lone.rows[0].number, lone.rows[0].implied) = (1, 111, true);
+    let (answer, next) = lone.step(&log, 145);
+    assert!(answer.is_ok());
+    assert_eq!(next, Reading::fresh().step(&log, 145).1);
+}
+
+#[test]
+fn rows_from_outside_resolve_to_the_bytes_there() {
+    // Number 5 is made to hold what stands at 109.
+    for (uri, tail, expected) in [
+        (
+            &b"urn:lozizol:deleted"[..],
+            &b"\x02\x05Q"[..],
+            Ok(Kind::Plain),
+        ),
+        (b"\xFF\x00", b"\x01\x05", Ok(Kind::Plain)),
+        (b"urn:lozizol:type", b"\x02\x05\x09", Ok(Kind::Assignment)),
+        (
+            b"urn:lozizol:header",
+            &[&[0x6C, 5], &book(&[])[2..]].concat(),
+            refused(3, 127),
+        ),
+    ] {
+        let log = book(&[uri, tail]);
+        let mut reading = Reading::fresh();
+        (reading.position, reading.held) = (109 + uri.len(), 1);
+        reading.rows[0] = Row {
+            number: 5,
+            place: 109,
+            length: uri.len() as u32,
+            ..Row::default()
+        };
+        let kind = reading.step(&log, log.len()).0.map(|item| match item {
+            Item::Entry {
+                kind, uri: found, ..
+            } if found == uri => kind,
+            other => panic!("{other:?}"),
+        });
+        assert_eq!(kind, expected);
+    }
+}
+
+#[test]
+fn slips_a_pupil_makes() {
+    // With type 81 05 the byte 05 stays.
+    let mut buf = book(&[b"\x05\x01\x81\x05a:\x03\x81\x05Q"]);
+    assert_eq!(erase(&mut buf, 119, 115), Ok(116));
+    assert_eq!(&buf[115..], b"\x03\x00\x05Q");
+    assert_eq!(wipe(&mut buf, 119, 115, 9), Ok(3));
+
+    // The size is wiped last and from the back.
+    let mut buf = book(&[b"\x81\x80\x00\x00", &[0; 16_382], b"Z", b"\x04\x01\x02a:"]);
+    let (used, list) = (buf.len(), entries(&buf));
+    for size in [b"\x81\x80\x00", b"\x81\x00\x00", b"\x00\x00\x00"] {
+        assert_eq!(wipe(&mut buf, used, 109, 1), Ok(1));
+        assert_eq!(&buf[109..112], size);
+        assert_eq!(entries(&buf), list);
+    }
+
+    // Number 1 is no assignment after it was reassigned; 5 is one.
+    let log = book(&[
+        b"\x12\x01\x05urn:lozizol:type\x04\x01\x01a:\x02\x01\x00",
+        b"\x04\x05\x07b:\x01\x07",
+    ]);
+    let list = entries(&log);
+    assert_eq!(list[3], (133, b"a:".to_vec(), vec![0]));
+    assert_eq!(list[4].1, b"urn:lozizol:type");
+    assert_eq!(list[5], (141, b"b:".to_vec(), vec![]));
+
+    // Assignments go under the smallest number that holds urn:lozizol:type,
+    // a new URI gets the smallest number that isn't held.
+    let mut buf = log.clone();
+    buf.extend([0; 20]);
+    let place = log.len() + 5;
+    let appended = append(&mut buf, log.len(), b"c:", b"x").unwrap();
+    assert_eq!(
+        appended,
+        Appended {
+            place,
+            used: place + 3
+        }
+    );
+    assert_eq!(&buf[log.len()..appended.used], b"\x04\x05\x02c:\x02\x02x");
+    // Several numbers hold one URI: the smallest is used.
+    let mut twice = book(&[b"\x04\x01\x09a:\x04\x01\x03a:", &[0; 2]]);
+    append(&mut twice, 119, b"a:", b"").unwrap();
+    assert_eq!(&twice[119..], b"\x01\x03");
+}
+
+#[test]
+fn long_data_and_the_largest_used_length() {
+    let mut buf = book(&[&vec![0; 16_777_216]]);
+    let answer = append(&mut buf, 109, b"a:", &[b'x'; 65_535]);
+    let (place, used) = (114, 114 + 3 + 1 + 65_535);
+    assert_eq!(answer, Ok(Appended { place, used }));
+    assert_eq!(&buf[114..118], b"\x84\x80\x00\x02");
+    let limit = 16_777_216;
+    assert_eq!(append(&mut buf, limit + 1, b"a:", b""), refused(1, 0));
+    assert_eq!(
+        append(&mut buf, limit - 1, b"a:", b""),
+        refused(12, limit - 1)
+    );
+    let end = Appended {
+        place: limit - 2,
+        used: limit,
+    };
+    assert_eq!(append(&mut buf, limit - 2, b"a:", b""), Ok(end));
+    assert_eq!(erase(&mut buf, limit, 114), Ok(117));
+    assert_eq!(wipe(&mut buf, limit, 114, usize::MAX), Ok(65_537));
+}
+
+/// A small generator, so that each run is the same.
+struct Random(u64);
+
+impl Random {
+    fn below(&mut self, bound: usize) -> usize {
+        self.0 ^= self.0 << 13;
+        self.0 ^= self.0 >> 7;
+        self.0 ^= self.0 << 17;
+        (self.0 >> 11) as usize % bound
+    }
+
+    fn pick<T: Copy>(&mut self, from: &[T]) -> T {
+        from[self.below(from.len())]
+    }
+}
+
+#[test]
+fn random_calls_keep_the_demands() {
+    let mut random = Random(0x9E37_79B9_7F4A_7C15);
+    let uris: [&[u8]; 7] = [
+        b"a:",
+        b"b:x",
+        b"c:1",
+        b"",
+        b"urn:lozizol:type",
+        b"urn:lozizol:header",
+        b"bad",
+    ];
+    for _ in 0..2_000 {
+        let mut buf = book(&[&[0xAA; 120]]);
+        let mut used = 109;
+        for _ in 0..25 {
+            let (before, list) = (buf.clone(), entries(&buf[..used]));
+            let place = random.below(used + 2);
+            let uri = random.pick(&uris);
+            let refused = match random.below(4) {
+                0 => match append(&mut buf, used, uri, b"dd") {
+                    Err(_) => true,
+                    Ok(Appended { place, used: end }) => {
+                        let now = entries(&buf[..end]);
+                        assert_eq!(now[..list.len()], list);
+                        assert!(now.len() <= list.len() + 2);
+                        assert_eq!(now.last(), Some(&(place, uri.to_vec(), b"dd".to_vec())));
+                        assert_eq!(buf[..used], before[..used]);
+                        assert_eq!(buf[end..], before[end..]);
+                        used = end;
+                        false
+                    }
+                },
+                1 => {
+                    let number = random.pick(&[0, 1, 2, 3, 111, 128, 70_000]);
+                    match assign(&mut buf, used, number, uri) {
+                        Err(_) => true,
+                        Ok(Appended { place, used: end }) => {
+                            assert_eq!((place, entries(&buf[..end]).len()), (used, list.len() + 1));
+                            used = end;
+                            false
+                        }
+                    }
+                }
+                2 => match erase(&mut buf, used, place) {
+                    Err(_) => true,
+                    Ok(_) => {
+                        let mut fewer = list.clone();
+                        fewer.retain(|entry| entry.0 != place);
+                        assert_eq!(fewer.len() + 1, list.len());
+                        assert_eq!(entries(&buf[..used]), fewer);
+                        false
+                    }
+                },
+                _ => match wipe(&mut buf, used, place, random.below(4)) {
+                    Err(_) => true,
+                    Ok(stores) => {
+                        let differ = buf.iter().zip(&before).filter(|(a, b)| a != b);
+                        assert_eq!(differ.count(), stores);
+                        assert_eq!(entries(&buf[..used]), list);
+                        false
+                    }
+                },
+            };
+            assert!(!refused || buf == before);
+        }
+    }
+}
+
+#[test]
+fn any_bytes_and_any_reading_end_in_an_answer() {
+    let mut random = Random(0xD1B5_4A32_D192_ED03);
+    let bytes = [
+        0, 0, 0, 0, 1, 1, 2, 3, 4, 5, 0x6F, 0x7F, 0x80, 0x81, 0xFF, b'a', b':',
+    ];
+    let odd = [0, 1, 2, 110, 125, 255, 256, u32::MAX, u32::MAX - 1];
+    let mut seen = [0; 14];
+    for _ in 0..60_000 {
+        let tail: Vec<u8> = (0..16).map(|_| random.pick(&bytes)).collect();
+        let mut buf = book(&[&tail]);
+        let used = random.pick(&[0, 109, 117, 124, 125, 125, 125, 126, usize::MAX]);
+        let mut reading = Reading::fresh();
+        reading.position = random.pick(&[0, 50, 109, 112, 125, 126, usize::MAX]);
+        reading.count = random.pick(&[0, 1, 126, usize::MAX]);
+        reading.held = random.pick(&[0, 0, 1, 2, 3, 32, 33, usize::MAX]);
+        for row in &mut reading.rows[..random.below(4)] {
+            row.number = random.pick(&odd);
+            row.implied = random.below(2) == 0;
+            row.place = random.pick(&odd);
+            row.length = random.pick(&odd);
+        }
+        let (answer, next) = reading.step(&buf, used);
+        match answer {
+            Ok(Item::End { .. }) => assert_eq!(next, reading),
+            Ok(_) => assert!(next.position > reading.position && next.position <= used),
+            Err(refusal) => {
+                assert_eq!(next, reading);
+                seen[usize::from(refusal.number)] += 1;
+            }
+        }
+        let before = buf.clone();
+        let place = random.pick(&[0, 109, 112, 124, 125, usize::MAX]);
+        let refusals = [
+            append(&mut buf, used, b"a:", b"1").err(),
+            assign(&mut buf, used, 3, b"").err(),
+            erase(&mut buf, used, place).err(),
+            wipe(&mut buf, used, place, 2).err(),
+        ];
+        for refusal in refusals.iter().flatten() {
+            seen[usize::from(refusal.number)] += 1;
+        }
+        assert!(refusals.contains(&None) || buf == before);
+        listing(&buf);
+    }
+    for number in [1, 2, 3, 4, 5, 6, 8, 9, 12, 13] {
+        assert!(seen[number] > 0, "{number}");
+    }
+}

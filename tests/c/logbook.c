@@ -1,0 +1,346 @@
+/*
+ * Uses every call and struct of logbook.h, as a C program would. Prints how many checks were made; the first that fails ends it.
+ */
+#include "logbook.h"
+
+#include <assert.h>
+#include <stdio.h>
+#include <stdlib.h>
+#include <string.h>
+
+static unsigned checks;
+
+static void check(int fine, const char *what, int line) {
+    checks++;
+    if (!fine) {
+        printf("logbook.c:%d: failed: %s\n", line, what);
+        exit(1);
+    }
+}
+#define CHECK(what) check((what) != 0, #what, __LINE__)
+
+/* A text as bytes and their length. */
+#define TEXT(text) (const uint8_t *)(text), sizeof(text) - 1
+/* Whether an answer is this refusal with this place. */
+#define REFUSED(answer, number, where) ((answer).refusal == (number) && (answer).place == (where))
+
+/* ---- the structs, as the library has them */
+#define AT(type, field, where) static_assert(offsetof(type, field) == (where), #type " " #field)
+#define SIZE(type, size) static_assert(sizeof(type) == (size), #type)
+enum { WORD = sizeof(size_t) };
+
+SIZE(logbook_started, 3 * WORD);
+AT(logbook_started, refusal, 0);
+AT(logbook_started, place, WORD);
+AT(logbook_started, used, 2 * WORD);
+SIZE(logbook_appended, 3 * WORD);
+AT(logbook_appended, refusal, 0);
+AT(logbook_appended, place, WORD);
+AT(logbook_appended, used, 2 * WORD);
+SIZE(logbook_erased, 2 * WORD);
+AT(logbook_erased, refusal, 0);
+AT(logbook_erased, place, WORD);
+SIZE(logbook_wiped, 3 * WORD);
+AT(logbook_wiped, refusal, 0);
+AT(logbook_wiped, place, WORD);
+AT(logbook_wiped, stores, 2 * WORD);
+SIZE(logbook_reading, 3 * WORD + 384);
+AT(logbook_reading, position, 0);
+AT(logbook_reading, count, WORD);
+AT(logbook_reading, held, 2 * WORD);
+AT(logbook_reading, numbers, 3 * WORD);
+AT(logbook_reading, places, 3 * WORD + 128);
+AT(logbook_reading, lengths, 3 * WORD + 256);
+SIZE(logbook_row, 12);
+AT(logbook_row, number, 0);
+AT(logbook_row, place, 4);
+AT(logbook_row, length, 8);
+SIZE(logbook_item, 8 * WORD + 16);
+AT(logbook_item, kind, 0);
+AT(logbook_item, refusal, WORD);
+AT(logbook_item, place, 2 * WORD);
+AT(logbook_item, number, 3 * WORD);
+AT(logbook_item, type_place, 4 * WORD);
+AT(logbook_item, data_place, 5 * WORD);
+AT(logbook_item, data_length, 6 * WORD);
+AT(logbook_item, row, 7 * WORD);
+AT(logbook_item, assigned, 7 * WORD + 12);
+AT(logbook_item, assigned_place, 7 * WORD + 16);
+SIZE(logbook_step_result, sizeof(logbook_item) + sizeof(logbook_reading));
+AT(logbook_step_result, item, 0);
+AT(logbook_step_result, reading, sizeof(logbook_item));
+SIZE(logbook_uri_answer, 4 * WORD);
+AT(logbook_uri_answer, refusal, 0);
+AT(logbook_uri_answer, implied, WORD);
+AT(logbook_uri_answer, place, 2 * WORD);
+AT(logbook_uri_answer, length, 3 * WORD);
+SIZE(logbook_listed, 2 * WORD + sizeof(logbook_reading));
+AT(logbook_listed, length, 0);
+AT(logbook_listed, over, WORD);
+AT(logbook_listed, reading, 2 * WORD);
+
+/* ---- a buffer with room behind the morning's 145 bytes */
+enum { ROOM = 200, MORNING = 145 };
+
+static const uint8_t uuid[LOGBOOK_UUID_LENGTH] = {0x5B, 0x0C, 0x7F, 0x1E, 0x93, 0xD2, 0x4A, 0x68,
+                                                  0x8E, 0x17, 0xC6, 0x4F, 0x20, 0xA9, 0xD3, 0xB5};
+static uint8_t free_part[LOGBOOK_FREE_LENGTH];
+
+static logbook_started start(uint8_t *buf, size_t len) {
+    memset(free_part, ' ', sizeof free_part);
+    return logbook_start(buf, len, uuid, sizeof uuid, free_part, sizeof free_part);
+}
+
+/* The morning's file by the calls: 01, "A morning's file, whole". */
+static void write_morning(uint8_t *buf) {
+    memset(buf, 0xAA, ROOM);
+    logbook_started started = start(buf, ROOM);
+    CHECK(REFUSED(started, LOGBOOK_DONE, 0) && started.used == LOGBOOK_HEADER_LENGTH);
+    logbook_appended done = logbook_append(buf, ROOM, started.used, TEXT("urn:ep:2010"), TEXT("P7"));
+    CHECK(REFUSED(done, LOGBOOK_DONE, 123) && done.used == 127);
+    done = logbook_assign(buf, ROOM, done.used, 2, TEXT("urn:ep:2017"));
+    CHECK(REFUSED(done, LOGBOOK_DONE, 127) && done.used == 141);
+    done = logbook_append(buf, ROOM, done.used, TEXT("urn:ep:2017"), TEXT("P8"));
+    CHECK(REFUSED(done, LOGBOOK_DONE, 141) && done.used == MORNING);
+
+    const char *front = "lozizol 0.5 5b0c7f1e-93d2-4a68-8e17-c64f20a9d3b5 ";
+    CHECK(memcmp(buf, front, 49) == 0 && memcmp(buf + 49, free_part, sizeof free_part) == 0);
+    const char *records = "\x0D\x01\x02urn:ep:2010\x03\x02P7\x0D\x01\x02urn:ep:2017\x03\x02P8";
+    CHECK(memcmp(buf + LOGBOOK_HEADER_LENGTH, records, MORNING - LOGBOOK_HEADER_LENGTH) == 0);
+    for (size_t place = MORNING; place < ROOM; place++) CHECK(buf[place] == 0xAA);
+}
+
+/* One step, whose item is expected to be of this kind at this place; the reading goes on. */
+static logbook_item step(const uint8_t *buf, logbook_reading *reading, size_t kind, size_t place) {
+    logbook_step_result result = logbook_step(buf, ROOM, MORNING, *reading);
+    CHECK(result.item.kind == kind && result.item.refusal == LOGBOOK_DONE && result.item.place == place);
+    *reading = result.reading;
+    return result.item;
+}
+
+/* Whether a live entry has this number, URI and data length. */
+static int is_entry(const uint8_t *buf, logbook_item item, size_t number, const char *uri, size_t length) {
+    logbook_uri_answer answer = logbook_uri(ROOM, MORNING, item.row);
+    return item.number == number && item.data_length == length && answer.refusal == LOGBOOK_DONE && answer.length == strlen(uri) &&
+           memcmp(logbook_uri_bytes(buf, answer), uri, answer.length) == 0;
+}
+
+static void read_morning(const uint8_t *buf) {
+    logbook_reading reading = logbook_fresh();
+    CHECK(reading.position == 0 && reading.count == 0 && reading.held == 0);
+    for (size_t row = 0; row < LOGBOOK_ROWS; row++) {
+        CHECK(reading.numbers[row] == 0 && reading.places[row] == 0 && reading.lengths[row] == 0);
+    }
+    logbook_item item = step(buf, &reading, LOGBOOK_HEADER, 0);
+    CHECK(is_entry(buf, item, 1, "urn:lozizol:header", 107) && item.type_place == 1 && item.data_place == 2);
+    CHECK(reading.position == 109 && reading.held == 2 && reading.numbers[0] == 1 && reading.numbers[1] == 111);
+    item = step(buf, &reading, LOGBOOK_ASSIGNMENT, 109);
+    CHECK(is_entry(buf, item, 2, "urn:lozizol:type", 12) && item.assigned == 2 && item.assigned_place == 112);
+    CHECK(reading.held == 3 && reading.numbers[1] == 2 && reading.places[1] == 112 && reading.lengths[1] == 11);
+    item = step(buf, &reading, LOGBOOK_ENTRY, 123);
+    CHECK(is_entry(buf, item, 3, "urn:ep:2010", 2) && memcmp(buf + item.data_place, "P7", 2) == 0);
+    CHECK(item.row.number == 2 && item.row.place == 112 && item.row.length == 11 && item.assigned == 0);
+    item = step(buf, &reading, LOGBOOK_ASSIGNMENT, 127);
+    CHECK(is_entry(buf, item, 4, "urn:lozizol:type", 12));
+    item = step(buf, &reading, LOGBOOK_ENTRY, 141);
+    CHECK(is_entry(buf, item, 5, "urn:ep:2017", 2) && memcmp(buf + item.data_place, "P8", 2) == 0);
+    logbook_reading last = reading;
+    step(buf, &reading, LOGBOOK_END, MORNING);
+    CHECK(memcmp(&last, &reading, sizeof last) == 0 && reading.count == 5);
+}
+
+/* Lists a file with this room for a piece; whether its text is this one. */
+static int lists(const uint8_t *file, size_t file_len, size_t room, const char *text) {
+    uint8_t out[1000];
+    char whole[2000];
+    size_t length = 0;
+    logbook_listed listed;
+    listed.reading = logbook_fresh();
+    do {
+        listed = logbook_list(listed.reading, file, file_len, out, room);
+        CHECK(listed.length <= room && length + listed.length <= sizeof whole);
+        CHECK(listed.over == 1 || room - listed.length < LOGBOOK_LINE_LIMIT);
+        memcpy(whole + length, out, listed.length);
+        length += listed.length;
+    } while (!listed.over);
+    return length == strlen(text) && memcmp(whole, text, length) == 0;
+}
+
+static void list_morning(const uint8_t *buf) {
+    const char *text = "0\t1\turn:lozizol:header\t107\n"
+                       "109\t2\turn:lozizol:type\t12\n"
+                       "123\t3\turn:ep:2010\t2\n"
+                       "127\t4\turn:lozizol:type\t12\n"
+                       "141\t5\turn:ep:2017\t2\n"
+                       "end\t145\n";
+    CHECK(lists(buf, MORNING, 1000, text));
+    CHECK(lists(buf, MORNING, LOGBOOK_LINE_LIMIT, text));
+    CHECK(lists(buf, 120, 1000, "0\t1\turn:lozizol:header\t107\nrefused\t2\t109\n"));
+    uint8_t out[LOGBOOK_LINE_LIMIT];
+    logbook_listed listed = logbook_list(logbook_fresh(), buf, MORNING, out, sizeof out - 1);
+    CHECK(listed.length == 0 && listed.over == 0);
+}
+
+/* Erases 123 and wipes it by ones: 01, "A full wipe then makes 3 stores, at 125, 126, 123". */
+static void wipe_morning(uint8_t *buf) {
+    static const size_t stores[] = {125, 126, 123};
+    uint8_t before[ROOM];
+    logbook_erased erased = logbook_erase(buf, ROOM, MORNING, 123);
+    CHECK(REFUSED(erased, LOGBOOK_DONE, 124) && buf[124] == 0);
+    for (size_t store = 0; store < 3; store++) {
+        memcpy(before, buf, ROOM);
+        logbook_wiped none = logbook_wipe(buf, ROOM, MORNING, 123, 0);
+        CHECK(REFUSED(none, LOGBOOK_DONE, 0) && none.stores == 0 && memcmp(before, buf, ROOM) == 0);
+        logbook_wiped wiped = logbook_wipe(buf, ROOM, MORNING, 123, 1);
+        CHECK(REFUSED(wiped, LOGBOOK_DONE, 0) && wiped.stores == 1);
+        CHECK(before[stores[store]] != 0);
+        before[stores[store]] = 0;
+        CHECK(memcmp(before, buf, ROOM) == 0);
+    }
+    logbook_wiped wiped = logbook_wipe(buf, ROOM, MORNING, 123, 1);
+    CHECK(REFUSED(wiped, LOGBOOK_NOTHING_THERE, 123) && wiped.stores == 0);
+    const char *text = "0\t1\turn:lozizol:header\t107\n"
+                       "109\t2\turn:lozizol:type\t12\n"
+                       "127\t3\turn:lozizol:type\t12\n"
+                       "141\t4\turn:ep:2017\t2\n"
+                       "end\t145\n";
+    CHECK(lists(buf, MORNING, 1000, text));
+}
+
+/* A refusal of each call; the buffer stays as it was. */
+static void refusals(uint8_t *buf) {
+    static uint8_t long_data[LOGBOOK_DATA_LIMIT + 1], long_file[LOGBOOK_FILE_LIMIT + 1];
+    uint8_t before[ROOM];
+    memcpy(before, buf, ROOM);
+    CHECK(REFUSED(logbook_start(buf, ROOM, uuid, 15, free_part, 60), LOGBOOK_BAD_REQUEST, 0));
+    CHECK(REFUSED(logbook_start(buf, ROOM, uuid, 16, free_part, 59), LOGBOOK_BAD_REQUEST, 0));
+    CHECK(REFUSED(start(buf, 108), LOGBOOK_NO_ROOM, 0) && start(buf, 108).used == 0);
+    CHECK(REFUSED(logbook_append(buf, ROOM, ROOM + 1, TEXT("a:"), TEXT("")), LOGBOOK_USED_LENGTH, 0));
+    CHECK(REFUSED(logbook_append(buf, ROOM, MORNING, TEXT("a"), TEXT("")), LOGBOOK_BAD_REQUEST, 0));
+    CHECK(REFUSED(logbook_append(buf, ROOM, MORNING, TEXT("a:"), long_data, sizeof long_data), LOGBOOK_BAD_REQUEST, 0));
+    CHECK(REFUSED(logbook_append(buf, ROOM, 108, TEXT("a:"), TEXT("")), LOGBOOK_INCOMPLETE, 0));
+    CHECK(REFUSED(logbook_append(buf, MORNING, MORNING, TEXT("urn:ep:2017"), TEXT("")), LOGBOOK_NO_ROOM, MORNING));
+    CHECK(logbook_append(buf, MORNING, MORNING, TEXT("urn:ep:2017"), TEXT("")).used == MORNING);
+    CHECK(REFUSED(logbook_assign(buf, ROOM, MORNING, 0, TEXT("a:")), LOGBOOK_BAD_REQUEST, 0));
+    CHECK(REFUSED(logbook_assign(buf, ROOM, MORNING, LOGBOOK_NUMBER_LIMIT + 1, TEXT("a:")), LOGBOOK_BAD_REQUEST, 0));
+    CHECK(REFUSED(logbook_assign(buf, ROOM, MORNING, 2, TEXT(LOGBOOK_IMPLIED_NAMES " ")), LOGBOOK_BAD_REQUEST, 0));
+    CHECK(REFUSED(logbook_erase(buf, ROOM, MORNING, 124), LOGBOOK_NOTHING_THERE, 124));
+    CHECK(REFUSED(logbook_erase(buf, ROOM, MORNING, 127), LOGBOOK_FIXED, 127));
+    CHECK(REFUSED(logbook_erase(buf, ROOM, MORNING, 0), LOGBOOK_FIXED, 0));
+    CHECK(REFUSED(logbook_wipe(buf, ROOM, MORNING, 141, SIZE_MAX), LOGBOOK_NOTHING_THERE, 141));
+    CHECK(REFUSED(logbook_wipe(buf, ROOM, SIZE_MAX, 141, 1), LOGBOOK_USED_LENGTH, 0));
+    CHECK(lists(long_file, sizeof long_file, 1000, "refused\t1\t0\n"));
+    CHECK(memcmp(before, buf, ROOM) == 0);
+}
+
+/* Faults in the bytes themselves, each behind the header, met by a step, an append, an erase and a wipe. */
+static void faults(void) {
+    static const struct {
+        const char *bytes;
+        size_t length, refusal;
+    } cases[] = {
+        {"\x81", 1, LOGBOOK_INCOMPLETE},         {"\x80", 1, LOGBOOK_BROKEN},     {"\x01\x81", 2, LOGBOOK_BROKEN},
+        {"\x02\x01\x00", 3, LOGBOOK_BAD_ASSIGNMENT}, {"\x02\x07x", 3, LOGBOOK_NOT_HELD}, {"\x01\x6F", 2, LOGBOOK_NOT_HEADER},
+    };
+    uint8_t buf[ROOM];
+    memset(buf, 0, sizeof buf);
+    CHECK(start(buf, ROOM).refusal == LOGBOOK_DONE);
+    logbook_reading reading = logbook_step(buf, ROOM, LOGBOOK_HEADER_LENGTH, logbook_fresh()).reading;
+    for (size_t index = 0; index < sizeof cases / sizeof cases[0]; index++) {
+        size_t used = LOGBOOK_HEADER_LENGTH + cases[index].length, refusal = cases[index].refusal;
+        memcpy(buf + LOGBOOK_HEADER_LENGTH, cases[index].bytes, cases[index].length);
+        logbook_step_result result = logbook_step(buf, ROOM, used, reading);
+        CHECK(result.item.kind == LOGBOOK_REFUSED && REFUSED(result.item, refusal, 109));
+        CHECK(memcmp(&result.reading, &reading, sizeof reading) == 0);
+        CHECK(REFUSED(logbook_append(buf, ROOM, used, TEXT("a:"), TEXT("")), refusal, 109));
+        CHECK(REFUSED(logbook_assign(buf, ROOM, used, 2, TEXT("a:")), refusal, 109));
+        CHECK(REFUSED(logbook_erase(buf, ROOM, used, 109), refusal, 109));
+        CHECK(REFUSED(logbook_wipe(buf, ROOM, used, 109, 1), refusal, 109));
+    }
+}
+
+/* A full register, and one without urn:lozizol:type. */
+static void register_refusals(void) {
+    uint8_t buf[2 * ROOM];
+    size_t used = start(buf, sizeof buf).used;
+    for (uint32_t number = 2; number < 32; number++) {
+        logbook_appended done = logbook_assign(buf, sizeof buf, used, number, TEXT("a:"));
+        CHECK(REFUSED(done, LOGBOOK_DONE, used));
+        used = done.used;
+    }
+    CHECK(REFUSED(logbook_assign(buf, sizeof buf, used, 32, TEXT("b:")), LOGBOOK_REGISTER_FULL, used));
+    CHECK(REFUSED(logbook_append(buf, sizeof buf, used, TEXT("b:"), TEXT("")), LOGBOOK_REGISTER_FULL, used));
+    logbook_appended done = logbook_assign(buf, sizeof buf, used, 1, TEXT("b:"));
+    CHECK(REFUSED(done, LOGBOOK_DONE, used));
+    CHECK(REFUSED(logbook_assign(buf, sizeof buf, done.used, 2, TEXT("c:")), LOGBOOK_NO_TYPE_NUMBER, 0));
+    done = logbook_append(buf, sizeof buf, done.used, TEXT("b:"), TEXT(""));
+    CHECK(done.refusal == LOGBOOK_DONE && buf[done.place] == 1 && buf[done.place + 1] == 1);
+}
+
+/* Readings and rows that don't fit. */
+static void outside(const uint8_t *buf) {
+    logbook_reading reading = logbook_fresh();
+    reading.position = MORNING + 1;
+    logbook_step_result result = logbook_step(buf, ROOM, MORNING, reading);
+    CHECK(result.item.kind == LOGBOOK_REFUSED && REFUSED(result.item, LOGBOOK_NOT_FITTING, 0));
+    CHECK(memcmp(&result.reading, &reading, sizeof reading) == 0);
+    reading.position = MORNING;
+    reading.held = LOGBOOK_ROWS + 1;
+    CHECK(REFUSED(logbook_step(buf, ROOM, MORNING, reading).item, LOGBOOK_NOT_FITTING, 0));
+
+    logbook_row row = {1, 0, 0};
+    logbook_uri_answer answer = logbook_uri(ROOM, MORNING, row);
+    CHECK(answer.refusal == LOGBOOK_DONE && answer.implied == 1 && answer.length == 16);
+    CHECK(memcmp(logbook_uri_bytes(buf, answer), "urn:lozizol:type", 16) == 0);
+    CHECK(logbook_uri(MORNING, ROOM, row).refusal == LOGBOOK_USED_LENGTH);
+    row.number = 2;
+    CHECK(logbook_uri(ROOM, MORNING, row).refusal == LOGBOOK_NOT_FITTING);
+    row.place = MORNING - 255;
+    row.length = LOGBOOK_URI_LIMIT;
+    CHECK(logbook_uri(ROOM, MORNING, row).refusal == LOGBOOK_NOT_FITTING);
+    row.place = 112;
+    row.length = 11;
+    answer = logbook_uri(ROOM, MORNING, row);
+    CHECK(answer.refusal == LOGBOOK_DONE && answer.implied == 0 && answer.place == 112 && answer.length == 11);
+    CHECK(logbook_uri_bytes(buf, answer) == buf + 112);
+}
+
+/* A pointer with length 0 may be null, in every argument. */
+static void null_pointers(uint8_t *buf) {
+    uint8_t out[LOGBOOK_LINE_LIMIT];
+    CHECK(REFUSED(logbook_start(NULL, 0, uuid, sizeof uuid, free_part, sizeof free_part), LOGBOOK_NO_ROOM, 0));
+    CHECK(REFUSED(logbook_start(buf, ROOM, NULL, 0, free_part, sizeof free_part), LOGBOOK_BAD_REQUEST, 0));
+    CHECK(REFUSED(logbook_start(buf, ROOM, uuid, sizeof uuid, NULL, 0), LOGBOOK_BAD_REQUEST, 0));
+    CHECK(REFUSED(logbook_start(NULL, 0, NULL, 0, NULL, 0), LOGBOOK_BAD_REQUEST, 0));
+    CHECK(REFUSED(logbook_append(NULL, 0, 0, TEXT("a:"), NULL, 0), LOGBOOK_INCOMPLETE, 0));
+    CHECK(REFUSED(logbook_append(NULL, 0, 0, NULL, 0, NULL, 0), LOGBOOK_BAD_REQUEST, 0));
+    CHECK(REFUSED(logbook_append(NULL, 0, 1, NULL, 0, NULL, 0), LOGBOOK_USED_LENGTH, 0));
+    CHECK(REFUSED(logbook_assign(NULL, 0, 0, 2, NULL, 0), LOGBOOK_INCOMPLETE, 0));
+    CHECK(REFUSED(logbook_erase(NULL, 0, 0, 0), LOGBOOK_INCOMPLETE, 0));
+    CHECK(REFUSED(logbook_wipe(NULL, 0, 0, 0, 1), LOGBOOK_INCOMPLETE, 0));
+    CHECK(REFUSED(logbook_step(NULL, 0, 0, logbook_fresh()).item, LOGBOOK_INCOMPLETE, 0));
+    CHECK(lists(NULL, 0, sizeof out, "refused\t2\t0\n"));
+    logbook_listed listed = logbook_list(logbook_fresh(), buf, MORNING, NULL, 0);
+    CHECK(listed.length == 0 && listed.over == 0);
+    logbook_appended done = logbook_append(buf, ROOM, MORNING, TEXT("urn:ep:2017"), NULL, 0);
+    CHECK(REFUSED(done, LOGBOOK_DONE, MORNING) && done.used == MORNING + 2);
+    done = logbook_assign(buf, ROOM, done.used, 2, NULL, 0);
+    CHECK(REFUSED(done, LOGBOOK_DONE, MORNING + 2) && done.used == MORNING + 5);
+    CHECK(memcmp(buf + MORNING, "\x01\x02\x02\x01\x02", 5) == 0 && buf[MORNING + 5] == 0xAA);
+}
+
+int main(void) {
+    uint8_t buf[ROOM];
+    write_morning(buf);
+    read_morning(buf);
+    list_morning(buf);
+    outside(buf);
+    refusals(buf);
+    wipe_morning(buf);
+    refusals(buf);
+    faults();
+    register_refusals();
+    null_pointers(buf);
+    printf("%u checks\n", checks);
+    return 0;
+}
