@@ -10,7 +10,7 @@ use Rattle.format.specs.Calls.{stepOn}
 use Rattle.format.specs.Bytes.{stored}
 use Rattle.register.specs.Tables.{rowOf}
 use Rattle.register.specs.declared.Row.{Row}
-use Rattle.record.specs.Items.{refusalOf, Lies}
+use Rattle.record.specs.Items.{refusalOf}
 use Rattle.fit.specs.Resolving.{resolving, resolvedOf, Stays}
 use Rattle.fit.specs.declared.Resolved.{Resolved}
 use Rattle.fit.specs.declared.Resolved.the-variants.{Log, Implied}
