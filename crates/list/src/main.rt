@@ -1,94 +1,93 @@
 // Lists the logbook in the file that its argument names, or on standard input without one.
-ghost use Prim.Native.Nat.{_≤_};
-ghost use lib.ListN.{length};
+mod input;
+mod output;
+
+ghost use lib.ListN.{take};
+ghost use Rattle.reading.specs.Readings.{readingOf};
+ghost use Rattle.listing.specs.Filling.{fillOf};
+ghost use Rattle.list.specs.Handing.{Shows, Lists, room, HandsOver, Stands};
+use input::Taken;
 use libc::STDIN_FILENO;
-use libc::STDOUT_FILENO;
+use output::Handed;
 use reading::Reading;
 
-// What came of reading a file: `len` bytes at the front of the buffer, or a failed read.
-struct Taken {
-    failed: bool,
-    len: usize,
-}
-
-// Reads until the buffer is full or the input is over.
-fn take_all(fd: i32, buf: &mut [u8]) -> Taken
-    ensures { λ r. ⌜ r .len ≤ length (now (buf .exit)) ⌝ }
-{
-    let mut len = 0;
-    while len < buf.len() {
-        let got = libc::read(fd, &mut buf[len..]);
-        if got < 0 {
-            return Taken {
-                failed: true,
-                len: 0,
-            };
-        }
-        let more = io::count(got, &buf[len..]);
-        if more == 0 {
-            return Taken { failed: false, len };
-        }
-        len += more;
-    }
-    Taken { failed: false, len }
-}
-
-// Where a listing stands: the reading to go on from, unless it is over.
+// Where a listing stands: the bytes handed over, the reading behind them, and whether they end it.
 struct Turn {
-    over: bool,
+    handed: Handed,
     reading: Reading,
+    over: bool,
 }
 
-// Writes one buffer of lines; a failed write is told, and ends the listing.
-fn show_some(reading: Reading, file: &[u8], out: &mut [u8]) -> Turn {
+// Hands over one buffer of lines.
+fn show_some(handed: Handed, reading: Reading, file: &[u8], out: &mut [u8; 262144]) -> Turn
+    requires { ⌜ Stands (now file) (handed .len) (handed .failed) (readingOf reading) ⌝ }
+    ensures { λ r. ⌜ HandsOver (handed .len) (fillOf (now (file .entry)) room (readingOf reading)) (r .handed .len) (readingOf (r .reading)) (r .over) ⌝ }
+{
     let t = listing::fill(reading, file, out);
     let len = t.len;
     let next = t.reading;
-    if !io::write_all(STDOUT_FILENO, &out[0..len]) {
-        os::fail(b"standard output");
-        return Turn {
-            over: true,
-            reading: next,
-        };
-    }
+    let lines = &out[..];
+    let more = handed.hand_over(file, &lines[0..len]);
     Turn {
-        over: t.over,
+        handed: more,
         reading: next,
+        over: t.over,
     }
 }
 
-// Writes the listing of a file; each buffer of lines passes over a byte, or is the last.
-fn show(file: &[u8]) {
-    let mut space = [0u8; 262144];
-    let out: &mut [u8] = &mut space;
+// Hands over the listing of a file, up to a failed write; each buffer of lines passes over a byte, or is the last.
+fn show(file: &[u8]) -> Handed
+    ensures { λ r. ⌜ Shows (now (file .entry)) (r .len) (r .failed) ⌝ }
+{
+    let mut out = [0u8; 262144];
+    let mut handed = Handed::nothing();
     let mut reading = Reading::fresh();
     let mut turns: usize = 65537;
     while 0 < turns {
-        let t = show_some(reading, file, out);
+        let t = show_some(handed, reading, file, &mut out);
+        let more = t.handed;
+        if more.has_failed() {
+            return more;
+        }
         if t.over {
-            return;
+            return more;
         }
         let next = t.reading;
+        handed = more;
         reading = next;
         turns -= 1;
     }
+    handed
 }
 
-// Lists a file, or says why it can't be read. One byte more than a listing takes tells a file that is too long.
-fn list(fd: i32, name: &[u8]) {
-    let mut file = [0u8; 65537];
-    let taken = take_all(fd, &mut file);
-    if taken.failed {
+// What came of listing a file: what was read of it, and the bytes handed over.
+struct Outcome {
+    taken: Taken,
+    handed: Handed,
+}
+
+// Reads a file into the buffer and lists it, or says why it can't be read. One byte more than a listing takes tells a file that is too long.
+fn list(fd: i32, name: &[u8], file: &mut [u8; 65537]) -> Outcome
+    ensures { λ r. ⌜ Lists (r .taken .failed) (take (r .taken .len) (now (file .exit))) (r .handed .len) (r .handed .failed) ⌝ }
+{
+    let taken = input::take_all(fd, file);
+    if taken.has_failed() {
         os::fail(name);
-        return;
+        return Outcome {
+            taken,
+            handed: Handed::nothing(),
+        };
     }
-    let len = taken.len;
-    show(&file[0..len]);
+    let len = taken.len();
+    let bytes = &file[..];
+    let handed = show(&bytes[0..len]);
+    Outcome { taken, handed }
 }
 
 fn main() {
+    let mut file = [0u8; 65537];
     if os::arg_count() < 2 {
-        list(STDIN_FILENO, b"standard input");
+        list(STDIN_FILENO, b"standard input", &mut file);
         return;
     }
     let mut path = io::buffer();
@@ -102,6 +101,6 @@ fn main() {
         os::fail(&path[..len]);
         return;
     }
-    list(fd, &path[..len]);
+    list(fd, &path[..len], &mut file);
     libc::close(fd);
 }

@@ -1,55 +1,42 @@
--- What fill wrote lies in the buffer.
+-- What fill wrote is the buffer's front, and the listing goes on with it from the reading.
 use native.Mathlib.Omega.{arith}
-use Rattle.listing.specs.FillingLaws.{filled-inside}
 use borrow.Author.Needs.{needs}
+use denote.Ref.{now}
+use Rattle.list.specs.HandingLaws.{filled-inside-buffer, filled-next, filled-handed}
 use Rattle.list.proofs.show_some.Statement.{statement}
 use Rattle.list.proofs.show_some.Tie as tie
 
 fill-requires : tie.Need-fill-requires
-fill-requires c κs = search needs
+fill-requires c κs = tt
 
-sub-write-all : tie.Need-sub-write-all
-sub-write-all c = search needs
+sub-hand-over : tie.Need-sub-hand-over
+sub-hand-over c = search needs
 
-part-write-all-start : tie.Need-part-write-all-start
-part-write-all-start c = search needs
+part-hand-over-start : tie.Need-part-hand-over-start
+part-hand-over-start c = search needs
 
-part-write-all-end : tie.Need-part-write-all-end
-part-write-all-end c = omega (arith, c .before .before .before .before .fill .ensures .0, c .before .before .before .before .fill .kept .1 .1 .0, filled-inside _ _ _ (c .before .before .before .before .fill .ensures .3) (c .before .before .before .before .fill .kept .1 .1 .0))
+part-hand-over-end : tie.Need-part-hand-over-end
+part-hand-over-end c = let a = c .before .before .before .before .before .before in
+    let f = c .before .before .before .fill in
+    omega (arith, filled-inside-buffer (a .pre) (now (a .args .out)) (c .before .before .before .before .fill-arg .given .0 .1) (f .kept .1 .1 .0) (f .ensures))
 
-write-all-requires : tie.Need-write-all-requires
-write-all-requires c κs = search needs
-
-slice-aggregate-fail : tie.Need-slice-aggregate-fail
-slice-aggregate-fail c = search needs
-
-fail-requires : tie.Need-fail-requires
-fail-requires c κs = search needs
-
-same-length : tie.Need-same-length
-same-length c = search needs
+hand-over-requires : tie.Need-hand-over-requires
+hand-over-requires c κs = let a = c .before .before .before .before .before .before .before in
+    let f = c .before .before .before .before .fill in
+    filled-next (a .pre) (now (a .args .out)) (c .before .before .before .before .before .fill-arg .given .0 .1) (f .kept .1 .1 .0) (f .ensures)
 
 returns : tie.Need-returns
-returns c = search needs
-
-same-length-2 : tie.Need-same-length-2
-same-length-2 c = search needs
-
-returns-2 : tie.Need-returns-2
-returns-2 c = search needs
+returns c = let a = c .before .before .before .before .before .before .before .before in
+    let f = c .before .before .before .before .before .fill in
+    filled-handed (a .pre) (now (a .args .out)) (c .before .before .before .before .before .before .fill-arg .given .0 .1) (f .kept .1 .1 .0) (f .ensures) (c .hand-over .ensures)
 
 pub show-some-spec : {M : Type 1} → statement M
 show-some-spec =
     tie.close
     (tie.spec
     fill-requires
-    sub-write-all
-    part-write-all-start
-    part-write-all-end
-    write-all-requires
-    slice-aggregate-fail
-    fail-requires
-    same-length
-    returns
-    same-length-2
-    returns-2)
+    sub-hand-over
+    part-hand-over-start
+    part-hand-over-end
+    hand-over-requires
+    returns)

@@ -3,8 +3,8 @@ use mathlib.Core.Path.{_≡_}
 use Prim.Native.Nat.{_≤_, _-_}
 use lib.ListN.{length}
 use borrow.Author.Needs.{needs}
-use Rattle.list.proofs.take_all.Statement.{statement}
-use Rattle.list.proofs.take_all.Tie as tie
+use Rattle.list.proofs.input.take_all.Statement.{statement}
+use Rattle.list.proofs.input.take_all.Tie as tie
 
 abbrev Inv-loop : tie.InvT-loop
 Inv-loop fd buf₀ len₀ buf len = (length buf ≡ length buf₀) × (len ≤ length buf)
