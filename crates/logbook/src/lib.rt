@@ -1,5 +1,4 @@
-// Every public call of the library, and what it takes and answers. None has a `requires`, save `uri_of`: the row of an item shown;
-// `resolve` tells where the URI of any row stands.
+// Every public call of the library, and what it takes and answers. None has a `requires`.
 pub use appending::Appended;
 pub use appending::Started;
 pub use appending::append;
@@ -14,13 +13,15 @@ pub use fit::resolve;
 pub use listing::Listed;
 pub use listing::fill;
 pub use reading::Entry;
-pub use reading::EntryNumber;
 pub use reading::Item;
 pub use reading::Reading;
 pub use reading::Step;
+pub use record::EntryNumber;
 pub use record::Live;
 pub use record::Place;
 pub use record::Refusal;
+pub use record::Told;
+pub use record::tell;
 pub use register::Register;
 pub use register::Row;
 pub use register::uri_of;

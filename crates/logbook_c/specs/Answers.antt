@@ -3,8 +3,8 @@ use mathlib.Core.Path.{_≡_, refl, ap, _∙_}
 use mathlib.Core.List.{List}
 use Prim.Native.Nat.{ℕ}
 use Rattle.format.specs.Calls as Calls
-use Rattle.format.specs.Calls.{Answer, appended, erased, wiped, denied, begun, notBegun, Called}
-use Rattle.appending.specs.Appendings.{bookIn, calledOf, appendedOf, usedAfter}
+use Rattle.format.specs.Calls.{bookIn, Answer, appended, erased, wiped, denied, begun, notBegun, Called, calledOf}
+use Rattle.appending.specs.Appendings.{appendedOf, usedAfter}
 use Rattle.appending.specs.declared.Appended.{Appended}
 use Rattle.appending.specs.declared.Appended.the-variants.{At, Refused}
 use Rattle.logbook_c.specs.declared.LogbookStarted.{LogbookStarted}

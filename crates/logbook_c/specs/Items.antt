@@ -1,26 +1,23 @@
 -- What C gets of a reading, an item, a URI's place and a listing.
-use mathlib.Core.Path.{_≡_, ap, _∙_, subst}
+use mathlib.Core.Path.{_≡_, refl, ap, _∙_, subst}
 use mathlib.Core.Bool.{Bool, true, false}
 use mathlib.Core.List.{List}
 use Prim.Native.Nat.{ℕ, _+_, _-_, _≤_}
 use native.Mathlib.Omega.{arith}
 use lib.ListN.{length, take, length-take}
+use Rattle.format.specs.Register as G
+use Rattle.format.specs.Records as M
 use Rattle.format.specs.Records.{Refusal, logbook}
-use Rattle.format.specs.Calls.{stepOn}
+use Rattle.format.specs.Reading.{Shown, shown, end, refused, Stepped, stepped}
+use Rattle.format.specs.Calls.{bookIn, stepOn, Resolved, inLog, inNames, noUri}
 use Rattle.format.specs.Bytes.{stored}
-use Rattle.register.specs.Tables.{rowOf}
 use Rattle.register.specs.declared.Row.{Row}
-use Rattle.record.specs.Items.{refusalOf}
-use Rattle.fit.specs.Resolving.{resolving, resolvedOf, Stays}
-use Rattle.fit.specs.declared.Resolved.{Resolved}
-use Rattle.fit.specs.declared.Resolved.the-variants.{Log, Implied}
-use Rattle.fit.specs.declared.Resolved.the-variants as Resolution
-use Rattle.reading.specs.Readings.{readingOf, steppedOf, Lying, bookIn}
+use Rattle.record.specs.Items.{refusalOf, data-length}
+use Rattle.reading.specs.Readings.{readingOf, shownOf, Lying}
 use Rattle.reading.specs.declared.Entry.{Entry}
 use Rattle.reading.specs.declared.Reading.{Reading}
 use Rattle.reading.specs.declared.Item.{Item}
 use Rattle.reading.specs.declared.Item.the-variants as Variant
-use Rattle.reading.specs.declared.Step.{Step}
 use Rattle.listing.specs.Filling.{Filled, fillOf}
 use Rattle.listing.specs.FillingLaws.{Fills}
 use Rattle.listing.specs.declared.Listed.{Listed}
@@ -143,28 +140,51 @@ Bounded n (Variant.Assignment e k m) = BoundedEntry n e × (e .live .kind + m �
 Bounded n (Variant.End p) = Unit {0}
 Bounded n (Variant.Refused x) = Unit {0}
 
--- ---- a step: the structs of a step of the library, which means what the definition says
+-- ---- what the definition shows, in a struct
+abbrev pub rowIn : G.Row → LogbookRow
+rowIn r = record { number = r .number; place = r .place; length = r .length }
+
+-- kinds 2, 3 and 4; an assignment has the number that it assigns and its URI's place
+abbrev pub liveIn : M.Entry → ℕ → ℕ → ℕ → ℕ → LogbookItem
+liveIn e n kind a q =
+    record {
+      kind = kind;
+      refusal = 0;
+      place = e .place;
+      number = n;
+      «type_place» = e .typePlace;
+      «data_place» = e .dataPlace;
+      «data_length» = length (e .bytes);
+      row = rowIn (e .row);
+      assigned = a;
+      «assigned_place» = q;
+    }
+
+abbrev pub kindIn : M.Kind → M.Entry → ℕ → LogbookItem
+kindIn M.plain e n = liveIn e n 2 0 0
+kindIn M.header e n = liveIn e n 3 0 0
+kindIn (M.assignment a q u) e n = liveIn e n 4 a q
+
+abbrev pub itemIn : Shown → LogbookItem
+itemIn (shown (M.padding p) n) = bareAs 0 0 p
+itemIn (shown (M.deleted p k s) n) = deletedAs p k s
+itemIn (shown (M.live e) n) = kindIn (e .kind) e n
+itemIn (end p) = bareAs 5 0 p
+itemIn (refused x) = refusedAs x
+
+-- a step is the definition's, its item and the reading it hands back
 pub record Steps (l : List ℕ) (used : ℕ) (r : LogbookReading) (x : LogbookStep) : Type 0 where
-  pub step : Step
-  pub item : x .item ≡ itemAs (step .item)
-  pub reading : readingFrom (x .reading) ≡ step .reading
-  pub means : steppedOf (take used l) step ≡ stepOn logbook (bookIn l used) (readingOf (readingFrom r))
-  pub lying : Lying (take used l) (step .item)
+  pub item : x .item ≡ itemIn (stepOn logbook (bookIn l used) (readingOf (readingFrom r)) .answer)
+  pub reading : readingOf (readingFrom (x .reading)) ≡ stepOn logbook (bookIn l used) (readingOf (readingFrom r)) .reading
 
 -- ---- where a URI stands
 abbrev pub rowFrom : LogbookRow → Row
 rowFrom r = record { number = r .number; place = r .place; length = r .length }
 
 abbrev pub uriAs : Resolved → LogbookUri
-uriAs (Log p n) = record { refusal = 0; implied = 0; place = p; length = n }
-uriAs (Implied p n) = record { refusal = 0; implied = 1; place = p; length = n }
-uriAs (Resolution.Refused x) = record { refusal = refusalOf x .number; implied = 0; place = 0; length = 0 }
-
-pub record Resolves (len used : ℕ) (r : LogbookRow) (x : LogbookUri) : Type 0 where
-  pub answer : Resolved
-  pub told : x ≡ uriAs answer
-  pub means : (l : List ℕ) → length l ≡ len → resolvedOf (take used l) answer ≡ resolving (bookIn l used) (rowOf (rowFrom r))
-  pub stays : Stays used answer
+uriAs (inLog p n) = record { refusal = 0; implied = 0; place = p; length = n }
+uriAs (inNames p n) = record { refusal = 0; implied = 1; place = p; length = n }
+uriAs (noUri x) = record { refusal = x .number; implied = 0; place = 0; length = 0 }
 
 -- ---- a listing's part
 abbrev pub flagOf : Bool → ℕ
@@ -178,6 +198,24 @@ pub record Lists (f : Filled) (out₀ out : List ℕ) (x : LogbookListed) : Type
   pub bytes : out ≡ stored out₀ 0 (f .text)
 
 -- ---- laws
+-- an item that lies in the log is what the definition shows
+pub item-shown : (l : List ℕ) (i : Item) → Lying l i → itemAs i ≡ itemIn (shownOf l i)
+item-shown l (Variant.Padding p) k = refl
+item-shown l (Variant.Deleted p a b) k = refl
+item-shown l (Variant.Entry e) k = rw (data-length l (e .place .0) (e .live) k)
+item-shown l (Variant.Header e) k = rw (data-length l (e .place .0) (e .live) k)
+item-shown l (Variant.Assignment e n m) k = rw (data-length l (e .place .0) (e .live) (k .0))
+item-shown l (Variant.End p) k = refl
+item-shown l (Variant.Refused x) k = refl
+
+pub step-told : (l : List ℕ) (used : ℕ) (r : LogbookReading) (x : LogbookStep) (i : Item) (s : Stepped) → x .item ≡ itemAs i → Lying (take used l) i
+    → stepped (shownOf (take used l) i) (readingOf (readingFrom (x .reading))) ≡ s → s ≡ stepOn logbook (bookIn l used) (readingOf (readingFrom r)) → Steps l used r x
+step-told l used r x i s e k p q =
+    record {
+      item = e ∙ item-shown (take used l) i k ∙ ap (λ (t : Stepped). itemIn (t .answer)) (p ∙ q);
+      reading = ap (λ (t : Stepped). t .reading) (p ∙ q);
+    }
+
 taken-short : (used : ℕ) (l : List ℕ) → length (take used l) ≤ length l
 taken-short used l = omega (arith, length-take used l)
 
@@ -185,8 +223,8 @@ pub lying-bounded : (used : ℕ) (l : List ℕ) (i : Item) → Lying (take used 
 lying-bounded used l (Variant.Padding p) k = tt
 lying-bounded used l (Variant.Deleted p a b) k = omega (arith, k, taken-short used l)
 lying-bounded used l (Variant.Entry e) k = record { whole = omega (arith, k .whole, taken-short used l); type = k .type }
-lying-bounded used l (Variant.Header e) k = record { whole = omega (arith, k .0 .whole, taken-short used l); type = k .0 .type }
-lying-bounded used l (Variant.Assignment e n m) k = (record { whole = omega (arith, k .0 .whole, taken-short used l); type = k .0 .type }, k .2)
+lying-bounded used l (Variant.Header e) k = record { whole = omega (arith, k .whole, taken-short used l); type = k .type }
+lying-bounded used l (Variant.Assignment e n m) k = (record { whole = omega (arith, k .0 .whole, taken-short used l); type = k .0 .type }, k .1)
 lying-bounded used l (Variant.End p) k = tt
 lying-bounded used l (Variant.Refused x) k = tt
 

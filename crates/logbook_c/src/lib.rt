@@ -5,25 +5,26 @@ ghost use lib.ListN.{length};
 ghost use Rattle.format.specs.Records.{logbook};
 ghost use Rattle.format.specs.Reading as Format;
 ghost use Rattle.format.specs.Calls as Calls;
-ghost use Rattle.format.specs.Calls.{callOn};
+ghost use Rattle.format.specs.Calls.{bookIn, callOn};
+ghost use Rattle.register.specs.Tables.{rowOf};
 ghost use Rattle.record.specs.Items.{refusalOf};
 ghost use Rattle.appending.specs.Starts.{startedOf};
-ghost use Rattle.appending.specs.Appendings.{bookIn, appendedOf};
+ghost use Rattle.appending.specs.Appendings.{appendedOf};
 ghost use Rattle.erasing.specs.Erases.{erasedOf};
 ghost use Rattle.erasing.specs.Wipes.{wipedOf};
 ghost use Rattle.reading.specs.Readings.{readingOf};
 ghost use Rattle.listing.specs.Filling.{fillOf};
 ghost use Rattle.logbook_c.specs.Answers.{startedAs, appendedAs, erasedAs, wipedAs};
-ghost use Rattle.logbook_c.specs.Items.{readingFrom, readingAs, rowAs, bareAs, deletedAs, liveAs, assignmentAs, refusedAs, itemAs, BoundedEntry, Bounded, Steps, Resolves, flagOf, Lists};
+ghost use Rattle.logbook_c.specs.Items.{readingFrom, readingAs, rowAs, bareAs, deletedAs, liveAs, assignmentAs, refusedAs, itemAs, BoundedEntry, Bounded, Steps, rowFrom, uriAs, flagOf, Lists};
 use appending::Appended;
 use appending::Started;
 use erasing::Erased;
 use erasing::Wiped;
 use fit::Resolved;
 use reading::Entry;
-use reading::EntryNumber;
 use reading::Item;
 use reading::Reading;
+use record::EntryNumber;
 use record::Place;
 use record::Refusal;
 use register::Register;
@@ -384,11 +385,13 @@ pub extern "C" fn logbook_step(buf: &[u8], used: usize, reading: LogbookReading)
     let mut numbers = reading.numbers;
     let mut places = reading.places;
     let mut lengths = reading.lengths;
+    let position = Place(reading.position);
+    let count = EntryNumber(reading.count);
     let t = reading::advance(
         buf,
         used,
-        reading.position,
-        reading.count,
+        position,
+        count,
         &mut numbers,
         &mut places,
         &mut lengths,
@@ -398,8 +401,8 @@ pub extern "C" fn logbook_step(buf: &[u8], used: usize, reading: LogbookReading)
     LogbookStep {
         item: item_as(buf, shown),
         reading: LogbookReading {
-            position: t.position,
-            count: t.count,
+            position: t.position.0,
+            count: t.count.0,
             held: t.held,
             numbers,
             places,
@@ -410,7 +413,7 @@ pub extern "C" fn logbook_step(buf: &[u8], used: usize, reading: LogbookReading)
 
 #[no_mangle]
 pub extern "C" fn logbook_uri(len: usize, used: usize, row: LogbookRow) -> LogbookUri
-    ensures { λ r. ⌜ Resolves len used row r ⌝ }
+    ensures { λ r. ⌜ r ≡ uriAs (Calls.resolve len used (rowOf (rowFrom row))) ⌝ }
 {
     let row = Row {
         number: row.number,
@@ -421,7 +424,7 @@ pub extern "C" fn logbook_uri(len: usize, used: usize, row: LogbookRow) -> Logbo
         Resolved::Log { place, length } => LogbookUri {
             refusal: 0,
             implied: 0,
-            place,
+            place: place.0,
             length,
         },
         Resolved::Implied { place, length } => LogbookUri {

@@ -1,3 +1,4 @@
+use Rattle.logbook_c.specs.Items.{step-told}
 -- The move of a reading whose rows are the struct's; its item lies in the used bytes, so no sum goes over.
 use mathlib.Core.Path.{refl}
 use denote.Ref.{now}
@@ -13,23 +14,8 @@ item-as-requires : tie.Need-item-as-requires
 item-as-requires c κs = lying-bounded (c .before .before .before .before .before .before .before .before .args .used) (now (c .before .before .before .before .before .before .before .before .args .buf)) (c .advance .result .item) (c .advance .ensures .2)
 
 returns : tie.Need-returns
-returns c = let t = c .before .advance in
-    record {
-      step =
-          record {
-            item = t .result .item;
-            reading =
-                record {
-                  position = record { 0 = t .result .position };
-                  count = record { 0 = t .result .count };
-                  register = record { numbers = t .last .1 .1 .1 .1 .0; places = t .last .1 .1 .1 .1 .1 .0; lengths = t .last .1 .1 .1 .1 .1 .1 .0; held = t .result .held };
-                };
-          };
-      item = c .item-as .ensures;
-      reading = refl;
-      means = t .ensures .1;
-      lying = t .ensures .2;
-    }
+returns c = let a = c .before .before .before .before .before .before .before .before .before .args in
+    step-told (now (a .buf)) (a .used) (a .reading) _ (c .before .advance .result .item) _ (c .item-as .ensures) (c .before .advance .ensures .2) refl (c .before .advance .ensures .1)
 
 pub logbook-step-spec : {M : Type 1} → statement M
 logbook-step-spec = tie.close (tie.spec advance-requires item-as-requires returns)

@@ -1,4 +1,10 @@
 -- By where the URI stands.
+use mathlib.Core.Path.{sym, ap, _∙_}
+use Rattle.format.specs.Records.{Refusal}
+use Rattle.format.specs.Calls.{noUri}
+use Rattle.fit.specs.Resolving.{resolvedOf}
+use Rattle.fit.specs.declared.Resolved.{Resolved}
+use Rattle.logbook_c.specs.Items.{uriAs}
 use borrow.Author.Needs.{needs}
 use Rattle.logbook_c.proofs.logbook_uri.Statement.{statement}
 use Rattle.logbook_c.proofs.logbook_uri.Tie as tie
@@ -19,13 +25,14 @@ tell-requires : tie.Need-tell-requires
 tell-requires c κs = search needs
 
 returns : tie.Need-returns
-returns c = record { answer = c .before .before .before .resolve .result; told = rw (c .before .place .given .1); means = c .before .before .before .resolve .ensures .0; stays = c .before .before .before .resolve .ensures .1 }
+returns c = ap (λ (r : Resolved). uriAs (resolvedOf r)) (sym (c .before .place .given .1)) ∙ ap uriAs (c .before .before .before .resolve .ensures)
 
 returns-2 : tie.Need-returns-2
-returns-2 c = record { answer = c .before .before .before .resolve .result; told = rw (c .before .place2 .given .1); means = c .before .before .before .resolve .ensures .0; stays = c .before .before .before .resolve .ensures .1 }
+returns-2 c = ap (λ (r : Resolved). uriAs (resolvedOf r)) (sym (c .before .place2 .given .1)) ∙ ap uriAs (c .before .before .before .resolve .ensures)
 
 returns-3 : tie.Need-returns-3
-returns-3 c = record { answer = c .before .before .before .before .resolve .result; told = rw (c .before .before .x .given .1, ← (c .tell .ensures)); means = c .before .before .before .before .resolve .ensures .0; stays = c .before .before .before .before .resolve .ensures .1 }
+returns-3 c = ap (λ (y : Refusal). uriAs (noUri y)) (c .tell .ensures)
+    ∙ ap (λ (r : Resolved). uriAs (resolvedOf r)) (sym (c .before .before .x .given .1)) ∙ ap uriAs (c .before .before .before .before .resolve .ensures)
 
 pub logbook-uri-spec : {M : Type 1} → statement M
 logbook-uri-spec =
