@@ -146,7 +146,8 @@ logbook_step_result logbook_step(const uint8_t *buf, size_t len, size_t used, lo
 
 /*
  * ---- the URI of a row: `length` bytes at `place` of the buffer, or, where `implied` is 1, of LOGBOOK_IMPLIED_NAMES. `len` and `used` are the
- * buffer's. Refused with 1 for the used length, and with 13 for a row that a reading at the used length would not fit with.
+ * buffer's. Refused with 1 for the used length, and with 13 for a row that a reading at the used length would not fit with;
+ * never for the row of an item that a step on this buffer and used length has shown.
  */
 #define LOGBOOK_IMPLIED_NAMES "urn:lozizol:typeurn:lozizol:header"
 
