@@ -9,7 +9,7 @@ use borrow.Author.Tests.{eqb-true, leb-true}
 use lib.ListN.{length, take, drop, length-append, length-drop, take-append-drop}
 use lib.Dec.{eqb, leb}
 use lib.Seq.{length-take-le, drop-at}
-use Rattle.format.specs.Cases.{by-test, from-zero-one, and-left}
+use Rattle.format.specs.Cases.{by-test, from-zero-one, true-false, and-left}
 use Rattle.format.specs.Bytes.{partOf}
 use Rattle.format.specs.BytesLaws.{part-more}
 use Rattle.format.specs.Integers.{value, readInteger}
@@ -18,13 +18,13 @@ use Rattle.format.specs.Uris.{typeName, headerName}
 use Rattle.format.specs.Register.{find, Row, numberOf, heldRows, uriIn, impliedRow, impliedName, Named, implied, Names, namedNumber, namedUri, seenIn, rowFor}
 use Rattle.format.specs.RegisterLaws.{find-number, seen-find, seen-uri, seen-row, some-some}
 use Rattle.format.specs.Records.{Entry, entryOf, Kind, header, Refusal, refusal, Item, live, Got, bad, got, element, headerAt, logbook, atHeader, item}
-use Rattle.format.specs.Reading.{Reading, fits, fitRows, namesIn, shown, Stepped, stepped, moved, atEnd, stepAt, step}
+use Rattle.format.specs.Reading.{Reading, fits, fitRows, namesIn, shown, end, refused, Stepped, stepped, moved, atEnd, stepAt, step}
 use Rattle.format.specs.Calls.{Book, usedBytes, parted, isWithin, sound, stepOn, inNames, inLog, resolveRow, resolve, noUri, uriThere}
 use Rattle.format.specs.Refusals.{FitRow, anImplied, aWritten, Fitting}
 use Rattle.format.specs.Denials.Fits.{fits-mean, alone-fits, row-fits, row-fits-alone}
 use Rattle.format.specs.Grammar.{RecordOf, writing, High, NoEmptyLead, leadsValue}
 use Rattle.format.specs.Shapes.{HeaderShape}
-use Rattle.format.specs.Entries.{EntryAt, ItemAt, aPadding, aDeleted, anEntry, Shows, RowFrom, ofHeader, ofReading, RowShown}
+use Rattle.format.specs.Entries.{EntryAt, ItemAt, aPadding, aDeleted, anEntry, Shows, Ends, RowFrom, ofHeader, ofReading, RowShown}
 use Rattle.format.specs.Order.Items.{got-item, got-bytes, Judgement, gone, entry, heading, assigning, judgement, Sizes, Form, form, size-form, item-element, item-header, item-exact}
 use Rattle.format.specs.Order.Changes.{headEntry, head-item, rows-number}
 use Rattle.format.specs.Lists.Shapes.{header-long, shape-header}
@@ -181,6 +181,45 @@ step-shows b r r1 i n e =
       stands = rw m (item-at (usedBytes b) (namesIn (usedBytes b) r) (k .names) (r .position) (k .byte) (k .behind) (k .bytes) i (k .here) (k .gets));
     }
 
+-- ---- the end
+shown-end : {P : Type 0} {i : Item} {n p : ℕ} → shown i n ≡ end p → P
+shown-end e = from-zero-one (cc)
+
+refused-end : {P : Type 0} {x : Refusal} {p : ℕ} → refused x ≡ end p → P
+refused-end e = from-zero-one (cc)
+
+module _ (b : Book) (r r1 : Reading) (p : ℕ) where
+  ends-got : (v : Got) → moved v r ≡ stepped (end p) r1 → Ends b r r1 p
+  unfolding moved
+  ends-got (bad y) e = refused-end (answer-of e)
+  ends-got (got j m h) e = shown-end (answer-of e)
+
+  ends-none : r .position ≡ b .used → (t : Bool) → stepped (cond t (refused (refusal 2 0)) (end (r .position))) r ≡ stepped (end p) r1 → Ends b r r1 p
+  ends-none z true e = refused-end (answer-of e)
+  ends-none z false e =
+      let q : r .position ≡ p = end-place (answer-of e) in
+      record { here = z; place = sym q ∙ z; same = sym (ap (λ (s : Stepped). s .reading) e) }
+    where
+      end-place : {m n : ℕ} → end m ≡ end n → m ≡ n
+      end-place e = cc
+
+  ends-at : r .position ≤ length (usedBytes b) → length (usedBytes b) ≡ b .used → (xs : List ℕ) → drop (r .position) (usedBytes b) ≡ xs
+      → stepAt logbook (namesIn (usedBytes b) r) xs r ≡ stepped (end p) r1 → Ends b r r1 p
+  unfolding stepAt atEnd
+  ends-at h k [] d e =
+      let z : length (drop (r .position) (usedBytes b)) ≡ 0 = ap length d in
+      ends-none (omega (arith, h, k, length-drop (r .position) (usedBytes b))) (atHeader logbook (r .position)) e
+  ends-at h k (x ∷ xs) d e = ends-got (item logbook (namesIn (usedBytes b) r) (r .position) x xs) e
+
+pub step-ends : (b : Book) (r r1 : Reading) (p : ℕ) → stepOn logbook b r ≡ stepped (end p) r1 → Ends b r r1 p
+unfolding stepOn step parted
+step-ends b r r1 p e =
+    by-test (sound b)
+    (λ s. by-test (fits r (length (usedBytes b)))
+    (λ f. ends-at b r r1 p (fits-mean r (length (usedBytes b)) .0 f .within) (used-long b s) (drop (r .position) (usedBytes b)) refl (rw (s, f) at e))
+    (λ f. refused-end (answer-of (rw (s, f) at e))))
+    (λ s. refused-end (answer-of (rw s at e)))
+
 -- ---- the row
 -- a row that fits is told from the log, and asked for, its URI is given
 module _ (b : Book) (s : sound b ≡ true) (x : Row) where
@@ -226,7 +265,7 @@ resolved-inside len used r p n e =
     (λ f. not-inside (rw (s, f) at e)))
     (λ s. not-inside (rw s at e))
 
-module _ (b : Book) (r : Reading) (s : sound b ≡ true) (f : fits r (length (usedBytes b)) ≡ true) where
+module _ (b : Book) (r : Reading) (s : sound b ≡ true) (f : fits r (length (usedBytes b)) ≡ true) (past : 1 ≤ r .position) where
   fitting : Fitting r (b .used)
   fitting = fits-mean r (b .used) .0 (rw (used-long b s) at f)
 
@@ -242,7 +281,7 @@ module _ (b : Book) (r : Reading) (s : sound b ≡ true) (f : fits r (length (us
       let c : uriIn (usedBytes b) x ≡ e .uri = sym (w ∙ ap namedUri (sym t) ∙ seen-uri (usedBytes b) x) in
       let j : find numberOf (x .number) (heldRows (r .table)) ≡ some x = ap (λ (i : ℕ). find numberOf i (heldRows (r .table))) (find-number numberOf n (heldRows (r .table)) x q) ∙ q in
       record {
-        from = subst (RowFrom r) (sym a) (ofReading x j);
+        from = subst (RowFrom r) (sym a) (ofReading x past j);
         gave = ap (uriIn (usedBytes b)) a ∙ c;
         again = ap (λ (i : Row). uriThere (usedBytes b) (resolve (length (b .buffer)) (b .used) i)) a
             ∙ resolved b s x (row-fits-alone r (b .used) n x fitting q o) ∙ ap (λ (i : List ℕ). some i) c;
@@ -268,17 +307,21 @@ module _ (b : Book) (r : Reading) (s : sound b ≡ true) (f : fits r (length (us
   element-row p zero n xs h e q = not-padding (got-item q)
   element-row p (suc x) n xs h e q = form-row p n (suc x ∷ xs) h e (size-form (namesIn (usedBytes b) r) h p n (suc x ∷ xs) (live e) q)
 
-  header-row : (l : List ℕ) (e : Entry) → r .position ≡ 0 → live e ≡ live (headEntry l) → RowShown b r e
-  unfolding uriIn fitRows
-  header-row l e z v =
-      subst (RowShown b r) (sym (live-entry v))
-      (record { from = ofHeader z; gave = refl; again = resolved b s (impliedRow 111) refl })
+past-header : (p : ℕ) → atHeader logbook p ≡ false → 1 ≤ p
+past-header zero e = true-false e
+past-header (suc p) e = omega arith
+
+header-row : (b : Book) (r : Reading) → sound b ≡ true → (l : List ℕ) (e : Entry) → r .position ≡ 0 → live e ≡ live (headEntry l) → RowShown b r e
+unfolding uriIn fitRows
+header-row b r s l e z v =
+    subst (RowShown b r) (sym (live-entry v))
+    (record { from = ofHeader z; gave = refl; again = resolved b s (impliedRow 111) refl })
 
 pub step-row : (b : Book) (r r1 : Reading) (e : Entry) (n : ℕ) → stepOn logbook b r ≡ stepped (shown (live e) n) r1 → RowShown b r e
 step-row b r r1 e n q =
     let k = looked b r r1 (live e) n q in
     by-test (atHeader logbook (r .position))
-    (λ f. header-row b r (k .isSound) (k .isFit) (k .byte ∷ k .bytes) e (eqb-true (r .position) 0 f)
+    (λ f. header-row b r (k .isSound) (k .byte ∷ k .bytes) e (eqb-true (r .position) 0 f)
     (head-item (k .byte ∷ k .bytes) (live e) (k .behind) (k .names) (sym (item-header logbook (namesIn (usedBytes b) r) (r .position) (k .byte) (k .bytes) f) ∙ k .gets) .0))
-    (λ f. element-row b r (k .isSound) (k .isFit) (r .position) (k .byte) (k .behind) (k .bytes) (k .names) e
+    (λ f. element-row b r (k .isSound) (k .isFit) (past-header (r .position) f) (r .position) (k .byte) (k .behind) (k .bytes) (k .names) e
     (sym (item-element logbook (namesIn (usedBytes b) r) (r .position) (k .byte) (k .bytes) f) ∙ k .gets))
