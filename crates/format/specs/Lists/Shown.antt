@@ -1,15 +1,15 @@
--- Where the item that a step shows stands, and which row gave it its URI.
+-- Where the item that a step shows stands, its number, which row gave it its URI; and where the end is shown.
 use mathlib.Core.Path.{_≡_, refl, sym, ap, _∙_, subst}
 use mathlib.Core.Bool.{Bool, true, false, cond}
 use mathlib.Core.List.{List, [], _∷_, _++_}
 use mathlib.Core.Option.{Option, none, some, Option·map}
 use Prim.Native.Nat.{ℕ, zero, suc, pred, _+_, _-_, _≤_}
 use native.Mathlib.Omega.{arith}
-use borrow.Author.Tests.{eqb-true, leb-true}
+use borrow.Author.Tests.{eqb-true}
 use lib.ListN.{length, take, drop, length-append, length-drop, take-append-drop}
-use lib.Dec.{eqb, leb}
+use lib.Dec.{eqb}
 use lib.Seq.{length-take-le, drop-at}
-use Rattle.format.specs.Cases.{by-test, from-zero-one, true-false, and-left}
+use Rattle.format.specs.Cases.{by-test, from-zero-one, true-false}
 use Rattle.format.specs.Bytes.{partOf}
 use Rattle.format.specs.BytesLaws.{part-more}
 use Rattle.format.specs.Integers.{value, readInteger}
@@ -17,19 +17,20 @@ use Rattle.format.specs.IntegerLaws.{read-exact}
 use Rattle.format.specs.Uris.{typeName, headerName}
 use Rattle.format.specs.Register.{find, Row, numberOf, heldRows, uriIn, impliedRow, impliedName, Named, implied, Names, namedNumber, namedUri, seenIn, rowFor}
 use Rattle.format.specs.RegisterLaws.{find-number, seen-find, seen-uri, seen-row, some-some}
-use Rattle.format.specs.Records.{Entry, entryOf, Kind, header, Refusal, refusal, Item, live, Got, bad, got, element, headerAt, logbook, atHeader, item}
-use Rattle.format.specs.Reading.{Reading, fits, fitRows, namesIn, shown, end, refused, Stepped, stepped, moved, atEnd, stepAt, step}
+use Rattle.format.specs.Records.{Entry, entryOf, Kind, header, Refusal, refusal, Item, padding, deleted, live, Got, bad, got, element, headerAt, logbook, atHeader, item}
+use Rattle.format.specs.Reading.{Reading, fits, fitRows, namesIn, counted, numbered, shown, end, refused, Stepped, stepped, moved, atEnd, stepAt, step}
 use Rattle.format.specs.Calls.{Book, usedBytes, parted, isWithin, sound, stepOn, inNames, inLog, resolveRow, resolve, noUri, uriThere}
+use Rattle.format.specs.CallLaws.{used-long}
 use Rattle.format.specs.Refusals.{FitRow, anImplied, aWritten, Fitting}
 use Rattle.format.specs.Denials.Fits.{fits-mean, alone-fits, row-fits, row-fits-alone}
 use Rattle.format.specs.Grammar.{RecordOf, writing, High, NoEmptyLead, leadsValue}
 use Rattle.format.specs.Shapes.{HeaderShape}
-use Rattle.format.specs.Entries.{EntryAt, ItemAt, aPadding, aDeleted, anEntry, Shows, Ends, RowFrom, ofHeader, ofReading, RowShown}
+use Rattle.format.specs.Entries.{EntryAt, ItemAt, aPadding, aDeleted, anEntry, Counted, Shows, Ends, RowFrom, ofHeader, ofReading, RowShown}
 use Rattle.format.specs.Order.Items.{got-item, got-bytes, Judgement, gone, entry, heading, assigning, judgement, Sizes, Form, form, size-form, item-element, item-header, item-exact}
 use Rattle.format.specs.Order.Changes.{headEntry, head-item, rows-number}
 use Rattle.format.specs.Lists.Shapes.{header-long, shape-header}
 use Rattle.format.specs.Lists.Parsing.{record-read, head-got, first-two}
-use Rattle.format.specs.Lists.Numbers.{refused-shown, shown-item, end-shown}
+use Rattle.format.specs.Lists.Numbers.{Counts, step-counts, refused-shown, shown-item, end-shown}
 use Rattle.format.specs.Lists.Places.{not-deleted, not-padding, live-entry}
 
 -- ---- a record's data are its bytes from the data place to its end
@@ -165,11 +166,16 @@ module _ (b : Book) (r r1 : Reading) (i : Item) (n : ℕ) where
       (λ f. refused-shown (answer-of (rw (s, f) at e))))
       (λ s. refused-shown (answer-of (rw s at e)))
 
-used-long : (b : Book) → sound b ≡ true → length (usedBytes b) ≡ b .used
+book-long : (b : Book) → sound b ≡ true → length (usedBytes b) ≡ b .used
 unfolding sound
-used-long b s = length-take-le (b .used) (b .buffer) (leb-true (b .used) (length (b .buffer)) (and-left (leb (b .used) (length (b .buffer))) _ s))
+book-long b s = used-long (b .buffer) (b .used) s
 
-pub step-shows : (b : Book) (r r1 : Reading) (i : Item) (n : ℕ) → stepOn logbook b r ≡ stepped (shown i n) r1 → Shows b r r1 i
+counted-as : (i : Item) (c n c1 : ℕ) → (n ≡ numbered i c) × (c1 ≡ counted i c) → Counted i c n c1
+counted-as (padding p) c n c1 k = k
+counted-as (deleted p j s) c n c1 k = k
+counted-as (live e) c n c1 k = k
+
+pub step-shows : (b : Book) (r r1 : Reading) (i : Item) (n : ℕ) → stepOn logbook b r ≡ stepped (shown i n) r1 → Shows b r r1 i n
 step-shows b r r1 i n e =
     let k = looked b r r1 i n e in
     let m = k .moves in
@@ -177,8 +183,9 @@ step-shows b r r1 i n e =
     let d : length (drop (r .position) (usedBytes b)) ≡ suc (length (k .bytes)) = ap length (k .here) in
     record {
       moves = omega arith;
-      within = omega (arith, length-drop (r .position) (usedBytes b), used-long b (k .isSound));
+      within = omega (arith, length-drop (r .position) (usedBytes b), book-long b (k .isSound));
       stands = rw m (item-at (usedBytes b) (namesIn (usedBytes b) r) (k .names) (r .position) (k .byte) (k .behind) (k .bytes) i (k .here) (k .gets));
+      counts = counted-as i (r .count) n (r1 .count) (subst (Counts (r .count)) e (step-counts b r) i n refl);
     }
 
 -- ---- the end
@@ -216,7 +223,7 @@ unfolding stepOn step parted
 step-ends b r r1 p e =
     by-test (sound b)
     (λ s. by-test (fits r (length (usedBytes b)))
-    (λ f. ends-at b r r1 p (fits-mean r (length (usedBytes b)) .0 f .within) (used-long b s) (drop (r .position) (usedBytes b)) refl (rw (s, f) at e))
+    (λ f. ends-at b r r1 p (fits-mean r (length (usedBytes b)) .0 f .within) (book-long b s) (drop (r .position) (usedBytes b)) refl (rw (s, f) at e))
     (λ f. refused-end (answer-of (rw (s, f) at e))))
     (λ s. refused-end (answer-of (rw s at e)))
 
@@ -237,7 +244,7 @@ module _ (b : Book) (s : sound b ≡ true) (x : Row) where
 
 fit-place : (p : ℕ) (x : Row) → FitRow p x → x .implied ≡ true → (x .place ≡ 0) × (x .length ≡ 0)
 fit-place p x (anImplied i n a c) e = (a, c)
-fit-place p x (aWritten i a c d) e = from-zero-one (let z : true ≡ false = sym e ∙ i in cc)
+fit-place p x (aWritten i a c d) e = true-false (sym e ∙ i)
 
 fit-inside : (p : ℕ) (x : Row) → FitRow p x → x .place + x .length ≤ p
 fit-inside p x (anImplied i n a c) = omega arith
@@ -267,7 +274,7 @@ resolved-inside len used r p n e =
 
 module _ (b : Book) (r : Reading) (s : sound b ≡ true) (f : fits r (length (usedBytes b)) ≡ true) (past : 1 ≤ r .position) where
   fitting : Fitting r (b .used)
-  fitting = fits-mean r (b .used) .0 (rw (used-long b s) at f)
+  fitting = fits-mean r (b .used) .0 (rw (book-long b s) at f)
 
   -- of a name that the register has, the row is the reading's
   row-named : (n : ℕ) (y : Named) → 1 ≤ n → (v : Option Row) → find numberOf n (heldRows (r .table)) ≡ v → Option·map (seenIn (usedBytes b)) v ≡ some y → (e : Entry) → e .row ≡ rowFor y → e .uri ≡ namedUri y
@@ -276,7 +283,7 @@ module _ (b : Book) (r : Reading) (s : sound b ≡ true) (f : fits r (length (us
   row-named n y o (some x) q z e u w =
       let t : seenIn (usedBytes b) x ≡ y = some-some z in
       let k = row-fits r (b .used) n x fitting q in
-      let m : x .place + x .length ≤ length (usedBytes b) = omega (arith, fit-inside (r .position) x k, fitting .within, used-long b s) in
+      let m : x .place + x .length ≤ length (usedBytes b) = omega (arith, fit-inside (r .position) x k, fitting .within, book-long b s) in
       let a : e .row ≡ x = u ∙ ap rowFor (sym t) ∙ seen-row (usedBytes b) x (fit-place (r .position) x k) m in
       let c : uriIn (usedBytes b) x ≡ e .uri = sym (w ∙ ap namedUri (sym t) ∙ seen-uri (usedBytes b) x) in
       let j : find numberOf (x .number) (heldRows (r .table)) ≡ some x = ap (λ (i : ℕ). find numberOf i (heldRows (r .table))) (find-number numberOf n (heldRows (r .table)) x q) ∙ q in
@@ -287,16 +294,17 @@ module _ (b : Book) (r : Reading) (s : sound b ≡ true) (f : fits r (length (us
             ∙ resolved b s x (row-fits-alone r (b .used) n x fitting q o) ∙ ap (λ (i : List ℕ). some i) c;
       }
 
-  named-row : (n : ℕ) (y : Named) (e : Entry) → 1 ≤ n → find namedNumber n (namesIn (usedBytes b) r) ≡ some y → e .row ≡ rowFor y → e .uri ≡ namedUri y → RowShown b r e
-  named-row n y e o q u w =
-      row-named n y o (find numberOf n (heldRows (r .table))) refl (sym (seen-find (usedBytes b) n (heldRows (r .table))) ∙ q) e u w
+  named-row : (a : ℕ) (y : Named) (p t c : ℕ) (k : Kind) (d : List ℕ) (e : Entry) → live (entryOf p t k y c d) ≡ live e → find namedNumber (suc a) (namesIn (usedBytes b) r) ≡ some y → RowShown b r e
+  named-row a y p t c k d e v q =
+      let z = sym (live-entry v) in
+      row-named (suc a) y (omega arith) (find numberOf (suc a) (heldRows (r .table))) refl (sym (seen-find (usedBytes b) (suc a) (heldRows (r .table))) ∙ q) e
+      (ap (λ (u : Entry). u .row) z) (ap (λ (u : Entry). u .uri) z)
 
   judged-row : (p k : ℕ) (w c : List ℕ) (n : ℕ) (h : Names) (i : Item) (m : ℕ) (e : Entry) → i ≡ live e → Judgement p k w c n (namesIn (usedBytes b) r) i m h → RowShown b r e
   judged-row p k w c n h i m e v (gone j x) = not-deleted v
-  judged-row p k w c n h i m e v (entry a j y x q z t) = let d = live-entry v in named-row (suc a) y e (omega arith) q (ap (λ (u : Entry). u .row) (sym d)) (ap (λ (u : Entry). u .uri) (sym d))
-  judged-row p k w c n h i m e v (heading a j y x q z t) = let d = live-entry v in named-row (suc a) y e (omega arith) q (ap (λ (u : Entry). u .row) (sym d)) (ap (λ (u : Entry). u .uri) (sym d))
-  judged-row p k w c n h i m e v (assigning a j l o y x q z t u1 u2 u3) =
-      let d = live-entry v in named-row (suc a) y e (omega arith) q (ap (λ (u : Entry). u .row) (sym d)) (ap (λ (u : Entry). u .uri) (sym d))
+  judged-row p k w c n h i m e v (entry a j y x q z t) = named-row a y _ _ _ _ _ e v q
+  judged-row p k w c n h i m e v (heading a j y x q z t) = named-row a y _ _ _ _ _ e v q
+  judged-row p k w c n h i m e v (assigning a j l o y x q z t u1 u2 u3) = named-row a y _ _ _ _ _ e v q
 
   form-row : (p n : ℕ) (l : List ℕ) (h : Names) (e : Entry) → Form (namesIn (usedBytes b) r) p l (live e) n h → RowShown b r e
   form-row p n l h e (form a c ys d m j z) =
