@@ -8,10 +8,10 @@ use borrow.Author.Tests.{le-leb, lt-leb}
 use lib.ListN.{length, take, drop, length-append, length-drop}
 use lib.Seq.{take-length, take-add, take-append-seam, drop-append-seam, drop-drop}
 use Rattle.format.specs.Bytes.{stored}
-use Rattle.format.specs.Cases.{by-order, from-zero-one}
+use Rattle.format.specs.Laws.Cases.{by-order, from-zero-one}
 use Rattle.format.specs.Reading.{Reading, fresh}
 use Rattle.format.specs.Listing.{listing}
-use Rattle.format.specs.ListingLaws.{Passes}
+use Rattle.format.specs.Laws.Listing.{Passes}
 use Rattle.listing.specs.Filling.{fillOf}
 use Rattle.listing.specs.FillingLaws.{Fills, filled-inside, fill-long, fill-listing, fill-moves}
 use Rattle.list.specs.Handing.{NextPart, Parts, Shows, Lists, room, HandsOver, restOn, Stands}

@@ -5,10 +5,10 @@ use Prim.Native.Nat.{ℕ, zero, suc, _+_, _*_, _/_, _%_, _≤_, _<_}
 use native.Mathlib.Omega.{arith}
 use lib.ListN.{length, set, length-append}
 use Rattle.format.specs.Bytes.{stored}
-use Rattle.format.specs.BytesLaws.{stored-first, stored-byte, stored-behind}
-use Rattle.format.specs.Cases.{by-order}
+use Rattle.format.specs.Laws.Bytes.{stored-first, stored-byte, stored-behind}
+use Rattle.format.specs.Laws.Cases.{by-order}
 use Rattle.format.specs.Listing.{decimal}
-use Rattle.format.specs.ListingLaws.{decimal-digit, decimal-more}
+use Rattle.format.specs.Laws.Listing.{decimal-digit, decimal-more}
 
 -- ten to a power
 unfoldable pub tenTo : ℕ → ℕ

@@ -1,0 +1,220 @@
+-- What the first rule means, and that one item is refused by the first of its rules that is due.
+use mathlib.Core.Path.{_≡_, refl, sym, ap, _∙_}
+use mathlib.Core.Bool.{Bool, true, false, _&&_, _||_, not}
+use mathlib.Core.List.{List, [], _∷_, _++_}
+use mathlib.Core.Logic.{_↔_}
+use mathlib.Core.Option.{Option, none, some}
+use Prim.Native.Nat.{ℕ, zero, suc, pred, _+_}
+use native.Mathlib.Omega.{arith}
+use borrow.Author.Tests.{lt-ltb, le-ltb, le-leb, lt-leb, leb-true, ne-eqb}
+use lib.ListN.{length, take, drop}
+use lib.Dec.{leb, ltb, eqb}
+use Rattle.format.specs.Laws.Cases.{by-test, by-order, from-zero-one, and-left, and-right, and-false}
+use Rattle.format.specs.Bytes.{same}
+use Rattle.format.specs.Laws.Bytes.{same-equal}
+use Rattle.format.specs.Text.{ascii}
+use Rattle.format.specs.Integers.{Integer, value, broken, notOver}
+use Rattle.format.specs.Uris.{typeName, headerName}
+use Rattle.format.specs.Header.{headerForm}
+use Rattle.format.specs.Register.{isHeld, find, hasRoom, Named, Names, namedNumber, namedUri, uriOf}
+use Rattle.format.specs.Laws.Register.{some-some}
+use Rattle.format.specs.Records.{Refusal, roomFor, assignable, assignmentPart, headerPart, dataPart, namedPart, typePart, sizePart, element, headerAt, Origin, atHeader, item}
+use Rattle.format.specs.Refusals.{Rule, rule, firstOf, NoneDue, FirstDue, due, InTable, isFaulty, sizeAt, recordAt, bodyAt, typeAt, dataAt, assignedNumber, assignedUri, uriAt, isNamed, isIncomplete, isBroken, notHeld, notForm, badAssignment, isTooMany, noRoom, recordRules, headerRules, elementRules, itemRules, refusalOfGot}
+
+-- ---- the first rule
+pub first-on : (r : Rule) (rs : List Rule) → r .when ≡ false → firstOf (r ∷ rs) ≡ firstOf rs
+unfolding firstOf
+first-on r rs e = rw e
+
+pub first-here : (r : Rule) (rs : List Rule) → r .when ≡ true → firstOf (r ∷ rs) ≡ some (r .refusal)
+unfolding firstOf
+first-here r rs e = rw e
+
+pub none-some : {P : Type 0} {x : Refusal} → none ≡ some x → P
+none-some e = from-zero-one (cc)
+
+due-on : (r : Rule) (rs : List Rule) (x : Refusal) → r .when ≡ false → FirstDue rs x → FirstDue (r ∷ rs) x
+unfolding NoneDue
+due-on r rs x f (due before s behind e n w q) = due (r ∷ before) s behind (ap (λ (l : List Rule). r ∷ l) e) (f, n) w q
+
+first-due : (rs : List Rule) (x : Refusal) → firstOf rs ≡ some x → FirstDue rs x
+unfolding firstOf NoneDue
+first-due [] x e = none-some e
+first-due (r ∷ rs) x e =
+    by-test (r .when)
+    (λ h. due [] r rs refl tt h (some-some (sym (first-here r rs h) ∙ e)))
+    (λ h. due-on r rs x h (first-due rs x (sym (first-on r rs h) ∙ e)))
+
+due-split : (before : List Rule) (r : Rule) (behind : List Rule) → NoneDue before → r .when ≡ true → firstOf (before ++ (r ∷ behind)) ≡ some (r .refusal)
+unfolding NoneDue
+due-split [] r behind n w = first-here r behind w
+due-split (s ∷ before) r behind (f, n) w = first-on s (before ++ (r ∷ behind)) f ∙ due-split before r behind n w
+
+due-first : (rs : List Rule) (x : Refusal) → FirstDue rs x → firstOf rs ≡ some x
+due-first rs x (due before r behind e n w q) = rw (e, ← q) (due-split before r behind n w)
+
+pub first-means : (rs : List Rule) (x : Refusal) → (firstOf rs ≡ some x) ↔ FirstDue rs x
+first-means rs x = (first-due rs x, due-first rs x)
+
+none-due : (rs : List Rule) → firstOf rs ≡ none → NoneDue rs
+unfolding NoneDue
+none-due [] e = tt
+none-due (r ∷ rs) e =
+    by-test (r .when)
+    (λ h. none-some (sym e ∙ first-here r rs h))
+    (λ h. (h, none-due rs (sym (first-on r rs h) ∙ e)))
+
+due-none : (rs : List Rule) → NoneDue rs → firstOf rs ≡ none
+unfolding firstOf NoneDue
+due-none [] n = refl
+due-none (r ∷ rs) (f, n) = first-on r rs f ∙ due-none rs n
+
+pub none-means : (rs : List Rule) → (firstOf rs ≡ none) ↔ NoneDue rs
+none-means rs = (none-due rs, due-none rs)
+
+-- ---- tests and their denials
+pub over-not : (a b : ℕ) → ltb b a ≡ not (leb a b)
+over-not a b =
+    by-order b a
+    (λ h. rw (lt-ltb b a h, lt-leb a b h))
+    (λ h. rw (le-ltb b a h, le-leb a b h))
+
+pub not-and : (a b : Bool) → (not a || not b) ≡ not (a && b)
+not-and true b = refl
+not-and false b = refl
+
+pub too-many : (n : ℕ) (u : List ℕ) (g : Names) → isTooMany n u g ≡ not (roomFor n u g)
+unfolding isTooMany roomFor hasRoom
+too-many n [] g = and-false (leb 32 (length g))
+too-many n (c ∷ u) g = go (isHeld (find namedNumber n g))
+  where
+    go : (t : Bool) → (leb 32 (length g) && not t) ≡ not (t || ltb (length g) 32)
+    go true = and-false (leb 32 (length g))
+    go false = by-order (length g) 32 (λ h. rw (lt-ltb (length g) 32 h, lt-leb 32 (length g) h)) (λ h. rw (le-ltb (length g) 32 h, le-leb 32 (length g) h))
+
+positive : (k : ℕ) → eqb (suc k) 0 ≡ false
+positive k = ne-eqb (suc k) 0 (λ e. omega arith)
+
+header-other : (u : List ℕ) → same u headerName ≡ true → same u typeName ≡ false
+unfolding same typeName headerName ascii
+header-other u e = rw (same-equal u headerName e)
+
+-- ---- a record l at p, stage by stage from the last: at each, the rules of the stages before it aren't due
+module _ (g : Names) (p : ℕ) (l : List ℕ) where
+  -- 2 and 4 aren't due
+  abbrev Passed : Type 0
+  Passed = (isIncomplete l ≡ false) × (isBroken l ≡ false)
+
+  number-stage : (y : Named) (t q n : ℕ) → Passed → notHeld g l ≡ false → notForm g l ≡ false → isNamed typeName (uriAt g l) ≡ true → (v : Integer) → assignedNumber l ≡ v
+      → refusalOfGot (assignmentPart v y p t q (dataAt l) n g) ≡ firstOf (recordRules g p l)
+  unfolding firstOf recordRules assignmentPart badAssignment noRoom assignedUri
+  number-stage y t q n (a, b) c d e notOver f = rw (a, b, c, d, e, f)
+  number-stage y t q n (a, b) c d e (broken why at) f = rw (a, b, c, d, e, f)
+  number-stage y t q n (a, b) c d e (value zero m) f = rw (a, b, c, d, e, f)
+  number-stage y t q n (a, b) c d e (value (suc k) m) f =
+      by-test (assignable (suc k) (drop m (dataAt l)))
+      (λ h. by-test (roomFor (suc k) (drop m (dataAt l)) g)
+      (λ r. rw (a, b, c, d, e, f, positive k, h, too-many (suc k) (drop m (dataAt l)) g, r))
+      (λ r. rw (a, b, c, d, e, f, positive k, h, too-many (suc k) (drop m (dataAt l)) g, r)))
+      (λ h. rw (a, b, c, d, e, f, positive k, h))
+
+  uri-stage : (t q n : ℕ) → Passed → notHeld g l ≡ false → (y : Named) → uriAt g l ≡ some (namedUri y)
+      → refusalOfGot (dataPart y p t q (recordAt l) (dataAt l) n g) ≡ firstOf (recordRules g p l)
+  unfolding firstOf recordRules dataPart headerPart notForm badAssignment noRoom assignedNumber
+  uri-stage t q n (a, b) c y e =
+      by-test (same (namedUri y) headerName)
+      (λ h. by-test (headerForm (recordAt l))
+      (λ f. rw (a, b, c, e, h, header-other (namedUri y) h, f))
+      (λ f. rw (a, b, c, e, h, f)))
+      (λ h. by-test (same (namedUri y) typeName)
+      (λ f. rw (h, f) (number-stage y t q n (a, b) c (rw (e, h)) (rw (e, f)) (assignedNumber l) refl))
+      (λ f. rw (a, b, c, e, h, f)))
+
+  type-stage : (k n : ℕ) → isIncomplete l ≡ false → isFaulty (sizeAt l) ≡ false → (v : Integer) → typeAt l ≡ v
+      → refusalOfGot (typePart v p k (recordAt l) (bodyAt l) n g) ≡ firstOf (recordRules g p l)
+  unfolding firstOf recordRules typePart isBroken notHeld notForm badAssignment noRoom uriAt uriOf namedPart dataAt
+  type-stage k n a b notOver e = rw (a, b, e)
+  type-stage k n a b (broken why at) e = rw (a, b, e)
+  type-stage k n a b (value zero j) e = rw (a, b, e)
+  type-stage k n a b (value (suc m) j) e = go (find namedNumber (suc m) g) refl
+    where
+      go : (x : Option Named) → find namedNumber (suc m) g ≡ x → refusalOfGot (namedPart x p (p + k) j (recordAt l) (bodyAt l) n g) ≡ firstOf (recordRules g p l)
+      go none q = rw (a, b, e, positive m, q)
+      go (some u) q =
+          let d : dataAt l ≡ drop j (bodyAt l) = rw e in
+          rw (← d) (uri-stage (p + k) (p + k + j) n (a, rw (b, e)) (rw (e, positive m, q)) u (rw (e, q)))
+
+  size-stage : (v : Integer) → sizeAt l ≡ v → refusalOfGot (sizePart v p l g) ≡ firstOf (recordRules g p l)
+  unfolding firstOf recordRules sizePart isIncomplete isBroken recordAt bodyAt typeAt
+  size-stage notOver e = rw e
+  size-stage (broken why at) e = rw (e, le-ltb (length l) 0 (omega arith))
+  size-stage (value s k) e =
+      by-test (leb (k + s) (length l))
+      (λ h.
+      let w : recordAt l ≡ take (k + s) l = rw e in
+      let b : bodyAt l ≡ take s (drop k l) = rw e in
+      rw (h, ← w, ← b) (type-stage k (pred (k + s)) (rw (e, over-not (k + s) (length l), h)) (rw e) (typeAt l) refl))
+      (λ h. rw (e, over-not (k + s) (length l), h))
+
+element-refusal : (g : Names) (p x : ℕ) (xs : List ℕ) → refusalOfGot (element g p x xs) ≡ firstOf (elementRules g p (x ∷ xs))
+unfolding element elementRules firstOf sizeAt
+element-refusal g p zero xs = refl
+element-refusal g p (suc x) xs = size-stage g p (suc x ∷ xs) (sizeAt (suc x ∷ xs)) refl
+
+header-refusal : (l : List ℕ) → refusalOfGot (headerAt l) ≡ firstOf (headerRules l)
+unfolding headerAt headerRules firstOf
+header-refusal l =
+    by-test (leb 109 (length l))
+    (λ h. by-test (headerForm (take 109 l)) (λ f. rw (over-not 109 (length l), h, f)) (λ f. rw (over-not 109 (length l), h, f)))
+    (λ h. rw (over-not 109 (length l), h))
+
+-- the item at p, of the bytes x ∷ xs
+pub item-refusal : (o : Origin) (g : Names) (p x : ℕ) (xs : List ℕ) → refusalOfGot (item o g p x xs) ≡ firstOf (itemRules o g p (x ∷ xs))
+unfolding item itemRules
+item-refusal o g p x xs = by-test (atHeader o p) (λ h. rw h (header-refusal (x ∷ xs))) (λ h. rw h (element-refusal g p x xs))
+
+-- ---- every rule has a number of the table
+unfoldable pub Numbered : List Rule → Type 0
+Numbered [] = Unit {0}
+Numbered (r ∷ rs) = (r .when ≡ true → InTable (r .refusal)) × Numbered rs
+
+pub first-numbered : (rs : List Rule) (x : Refusal) → Numbered rs → firstOf rs ≡ some x → InTable x
+unfolding Numbered firstOf
+first-numbered [] x n e = none-some e
+first-numbered (r ∷ rs) x (a, n) e =
+    by-test (r .when)
+    (λ h. let q : r .refusal ≡ x = some-some (sym (first-here r rs h) ∙ e) in rw (← q) (a h))
+    (λ h. first-numbered rs x n (sym (first-on r rs h) ∙ e))
+
+pub numbered-rule : (r : Rule) (rs : List Rule) → (r .when ≡ true → InTable (r .refusal)) → Numbered rs → Numbered (r ∷ rs)
+unfolding Numbered
+numbered-rule r rs a n = (a, n)
+
+pub numbered : (n p : ℕ) (t : Bool) (rs : List Rule) → (leb 1 n && leb n 13) ≡ true → Numbered rs → Numbered (rule n p t ∷ rs)
+numbered n p t rs e =
+    numbered-rule (rule n p t) rs
+    (λ h. (leb-true 1 n (and-left (leb 1 n) (leb n 13) e), leb-true n 13 (and-right (leb 1 n) (leb n 13) e)))
+
+pub numbered-none : Numbered []
+unfolding Numbered
+numbered-none = tt
+
+element-numbered : (g : Names) (p : ℕ) (l : List ℕ) → Numbered (elementRules g p l)
+unfolding elementRules recordRules
+element-numbered g p [] = numbered-none
+element-numbered g p (zero ∷ xs) = numbered-none
+element-numbered g p (suc x ∷ xs) =
+    numbered 2 p _ _ refl
+    (numbered 4 p _ _ refl
+    (numbered 6 p _ _ refl
+    (numbered 3 p _ _ refl
+    (numbered 5 p _ _ refl
+    (numbered 7 p _ _ refl
+    numbered-none)))))
+
+pub item-numbered : (o : Origin) (g : Names) (p : ℕ) (l : List ℕ) → Numbered (itemRules o g p l)
+unfolding itemRules headerRules
+item-numbered o g p l =
+    by-test (atHeader o p)
+    (λ h. rw h (numbered 2 0 _ _ refl (numbered 3 0 _ _ refl numbered-none)))
+    (λ h. rw h (element-numbered g p l))
