@@ -5,6 +5,7 @@ use mathlib.Core.List.{List, [], _∷_}
 use Prim.Native.Nat.{ℕ, _+_, _≤_, _<_}
 use lib.ListN.{length, take, drop}
 use lib.Dec.{leb}
+use Rattle.format.specs.Figures.{fileLimit}
 use Rattle.format.specs.Records.{refusal}
 use Rattle.format.specs.Reading.{Reading}
 use Rattle.format.specs.Listing.{refusedLine, listingOn, listing}
@@ -46,7 +47,7 @@ pub record HandsOver (n : ℕ) (f : Filled) (m : ℕ) (r : Reading) (ended : Boo
 
 -- the listing from a reading on; a file over 65,536 bytes has one line, wherever the reading stands
 unfoldable pub restOn : List ℕ → Reading → List ℕ
-restOn file r = cond (leb (length file) 65536) (listingOn file r) (refusedLine (refusal 1 0))
+restOn file r = cond (leb (length file) fileLimit) (listingOn file r) (refusedLine (refusal 1 0))
 
 -- behind the n bytes handed over the listing goes on from the reading; the next buffer can be counted too
 pub record Stands (file : List ℕ) (n : ℕ) (failed : Bool) (r : Reading) : Type 0 where

@@ -8,6 +8,7 @@ use borrow.Author.Tests.{le-leb, lt-leb}
 use lib.ListN.{length, take, drop, length-append, length-drop}
 use lib.Seq.{take-length, take-add, take-append-seam, drop-append-seam, drop-drop}
 use Rattle.format.specs.Bytes.{stored}
+use Rattle.format.specs.Figures.{fileLimit}
 use Rattle.format.specs.Laws.Cases.{by-order, from-zero-one}
 use Rattle.format.specs.Reading.{Reading, fresh}
 use Rattle.format.specs.Listing.{listing}
@@ -39,14 +40,14 @@ fill-rest : (file : List ℕ) (r : Reading)
     → restOn file r ≡ fillOf file room r .text ++ cond (fillOf file room r .over) [] (restOn file (fillOf file room r .reading))
 unfolding restOn
 fill-rest file r =
-    by-order 65536 (length file)
-    (λ h. rw (lt-leb (length file) 65536 h, fill-long file r room h (omega arith)) (sym (append-nil _)))
-    (λ h. rw (le-leb (length file) 65536 h) (fill-listing file room r h))
+    by-order fileLimit (length file)
+    (λ h. rw (lt-leb (length file) fileLimit h, fill-long file r room h (omega arith)) (sym (append-nil _)))
+    (λ h. rw (le-leb (length file) fileLimit h) (fill-listing file room r h))
 
 -- one that isn't the last passes over a byte, and not past 65,536
-fill-passes : (file : List ℕ) (r : Reading) → fillOf file room r .over ≡ false → Passes (r .position) (fillOf file room r .reading) 65536
+fill-passes : (file : List ℕ) (r : Reading) → fillOf file room r .over ≡ false → Passes (r .position) (fillOf file room r .reading) fileLimit
 fill-passes file r o =
-    by-order 65536 (length file)
+    by-order fileLimit (length file)
     (λ h. from-zero-one (cc (rw (fill-long file r room h (omega arith)) at o)))
     (λ h. let q = fill-moves file room r h (omega arith) o in (q .0, omega (arith, q .1)))
 
@@ -110,7 +111,7 @@ module _ {file : List ℕ} {n : ℕ} {failed : Bool} {r : Reading} (s : Stands f
           counted = c;
         }
 
-    pub handed-passes : over ≡ false → Passes (r .position) q 65536
+    pub handed-passes : over ≡ false → Passes (r .position) q fileLimit
     handed-passes o = rw (h .reading) (fill-passes file r (sym (h .over) ∙ o))
 
 -- ---- what was read of a file, at the front of the buffer d

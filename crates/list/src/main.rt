@@ -11,6 +11,12 @@ use libc::STDIN_FILENO;
 use output::Handed;
 use reading::Reading;
 
+// One byte more than a listing takes tells a file that is too long.
+const FILE_ROOM: usize = format::FILE_LIMIT + 1;
+
+// The bytes of lines that are handed over at once.
+const LINES_ROOM: usize = 262144;
+
 // Where a listing stands: the bytes handed over, the reading behind them, and whether they end it.
 struct Turn {
     handed: Handed,
@@ -19,7 +25,7 @@ struct Turn {
 }
 
 // Hands over one buffer of lines.
-fn show_some(handed: Handed, reading: Reading, file: &[u8], out: &mut [u8; 262144]) -> Turn
+fn show_some(handed: Handed, reading: Reading, file: &[u8], out: &mut [u8; LINES_ROOM]) -> Turn
     requires { ⌜ Stands (now file) (handed .len) (handed .failed) (readingOf reading) ⌝ }
     ensures { λ r. ⌜ HandsOver (handed .len) (fillOf (now (file .entry)) room (readingOf reading)) (r .handed .len) (readingOf (r .reading)) (r .over) ⌝ }
 {
@@ -39,10 +45,10 @@ fn show_some(handed: Handed, reading: Reading, file: &[u8], out: &mut [u8; 26214
 fn show(file: &[u8]) -> Handed
     ensures { λ r. ⌜ Shows (now (file .entry)) (r .len) (r .failed) ⌝ }
 {
-    let mut out = [0u8; 262144];
+    let mut out = [0u8; LINES_ROOM];
     let mut handed = Handed::nothing();
     let mut reading = Reading::fresh();
-    let mut turns: usize = 65537;
+    let mut turns: usize = FILE_ROOM;
     while 0 < turns {
         let t = show_some(handed, reading, file, &mut out);
         let more = t.handed;
@@ -66,8 +72,8 @@ struct Outcome {
     handed: Handed,
 }
 
-// Reads a file into the buffer and lists it, or says why it can't be read. One byte more than a listing takes tells a file that is too long.
-fn list(fd: i32, name: &[u8], file: &mut [u8; 65537]) -> Outcome
+// Reads a file into the buffer and lists it, or says why it can't be read.
+fn list(fd: i32, name: &[u8], file: &mut [u8; FILE_ROOM]) -> Outcome
     ensures { λ r. ⌜ Lists (r .taken .failed) (take (r .taken .len) (now (file .exit))) (r .handed .len) (r .handed .failed) ⌝ }
 {
     let taken = input::take_all(fd, file);
@@ -85,7 +91,7 @@ fn list(fd: i32, name: &[u8], file: &mut [u8; 65537]) -> Outcome
 }
 
 fn main() {
-    let mut file = [0u8; 65537];
+    let mut file = [0u8; FILE_ROOM];
     if os::arg_count() < 2 {
         list(STDIN_FILENO, b"standard input", &mut file);
         return;

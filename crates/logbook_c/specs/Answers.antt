@@ -2,8 +2,9 @@
 use mathlib.Core.Path.{_≡_, refl, ap, _∙_}
 use mathlib.Core.List.{List}
 use Prim.Native.Nat.{ℕ}
+use Rattle.format.specs.Records.{logbook}
 use Rattle.format.specs.Calls as Calls
-use Rattle.format.specs.Calls.{bookIn, Answer, appended, erased, wiped, denied, begun, notBegun, Called, calledOf}
+use Rattle.format.specs.Calls.{bookIn, Call, callOn, Answer, appended, erased, wiped, denied, begun, notBegun, Called, calledOf}
 use Rattle.appending.specs.Appendings.{appendedOf, usedAfter}
 use Rattle.appending.specs.declared.Appended.{Appended}
 use Rattle.appending.specs.declared.Appended.the-variants.{At, Refused}
@@ -36,6 +37,19 @@ wipedAs (wiped n) = record { refusal = 0; place = 0; stores = n }
 wipedAs (denied x) = record { refusal = x .number; place = x .place; stores = 0 }
 wipedAs (appended p n) = record { refusal = 0; place = p; stores = 0 }
 wipedAs (erased p) = record { refusal = 0; place = p; stores = 0 }
+
+-- ---- a call's answer and what it leaves are the definition's: a start has no used length before it, an append's stands in the
+-- answer, any other call keeps it
+abbrev pub Starts : List ℕ → List ℕ → List ℕ → List ℕ → LogbookStarted → Type 0
+Starts uuid free l l1 x = (x ≡ startedAs ((Calls.start uuid free l) .answer)) × (l1 ≡ (Calls.start uuid free l) .buffer)
+
+abbrev pub Appends : Call → List ℕ → ℕ → List ℕ → LogbookAppended → Type 0
+Appends c l used l1 x =
+    (x ≡ appendedAs used ((callOn logbook c (bookIn l used)) .answer)) × (bookIn l1 (x .used) ≡ (callOn logbook c (bookIn l used)) .book)
+
+abbrev pub Keeps : {A : Type 0} → (Answer → A) → Call → List ℕ → ℕ → List ℕ → A → Type 0
+Keeps f c l used l1 x =
+    (x ≡ f ((callOn logbook c (bookIn l used)) .answer)) × (bookIn l1 used ≡ (callOn logbook c (bookIn l used)) .book)
 
 -- ---- what the library's contract says, for C
 used-told : (used : ℕ) (r : Appended) → appendedAs used (appendedOf r) .used ≡ usedAfter used r

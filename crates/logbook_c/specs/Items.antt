@@ -11,6 +11,7 @@ use Rattle.format.specs.Records.{Refusal, logbook}
 use Rattle.format.specs.Reading.{Shown, shown, end, refused, Stepped, stepped}
 use Rattle.format.specs.Calls.{bookIn, stepOn, Resolved, inLog, inNames, noUri}
 use Rattle.format.specs.Bytes.{stored}
+use Rattle.register.specs.Columns.{rowWith}
 use Rattle.register.specs.declared.Row.{Row}
 use Rattle.record.specs.Items.{refusalOf, data-length}
 use Rattle.reading.specs.Readings.{readingOf, shownOf, Lying}
@@ -34,7 +35,7 @@ readingFrom r =
     record {
       position = record { 0 = r .position };
       count = record { 0 = r .count };
-      register = record { numbers = r .numbers; places = r .places; lengths = r .lengths; held = r .held };
+      register = record { numbers = r .numbers; details = r .details; held = r .held };
     }
 
 abbrev pub readingAs : Reading → LogbookReading
@@ -44,8 +45,7 @@ readingAs r =
       count = r .count .0;
       held = r .register .held;
       numbers = r .register .numbers;
-      places = r .register .places;
-      lengths = r .register .lengths;
+      details = r .register .details;
     }
 
 -- ---- an item: kinds 0 to 6
@@ -179,7 +179,7 @@ pub record Steps (l : List ℕ) (used : ℕ) (r : LogbookReading) (x : LogbookSt
 
 -- ---- where a URI stands
 abbrev pub rowFrom : LogbookRow → Row
-rowFrom r = record { number = r .number; place = r .place; length = r .length }
+rowFrom r = rowWith (r .number) (r .place) (r .length)
 
 abbrev pub uriAs : Resolved → LogbookUri
 uriAs (inLog p n) = record { refusal = 0; implied = 0; place = p; length = n }

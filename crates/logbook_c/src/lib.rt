@@ -14,8 +14,9 @@ ghost use Rattle.erasing.specs.Erases.{erasedOf};
 ghost use Rattle.erasing.specs.Wipes.{wipedOf};
 ghost use Rattle.reading.specs.Readings.{readingOf};
 ghost use Rattle.listing.specs.Filling.{fillOf};
-ghost use Rattle.logbook_c.specs.Answers.{startedAs, appendedAs, erasedAs, wipedAs};
-ghost use Rattle.logbook_c.specs.Items.{readingFrom, readingAs, rowAs, bareAs, deletedAs, liveAs, assignmentAs, refusedAs, itemAs, BoundedEntry, Bounded, Steps, rowFrom, uriAs, flagOf, Lists};
+ghost use Rattle.logbook_c.specs.Answers.{startedAs, appendedAs, erasedAs, wipedAs, Starts, Appends, Keeps};
+ghost use Rattle.logbook_c.specs.Items.{readingFrom, readingAs, rowAs, bareAs, deletedAs, liveAs, assignmentAs, refusedAs, itemAs};
+ghost use Rattle.logbook_c.specs.Items.{BoundedEntry, Bounded, Steps, rowFrom, uriAs, flagOf, Lists};
 use appending::Appended;
 use appending::Started;
 use erasing::Erased;
@@ -27,6 +28,8 @@ use reading::Reading;
 use record::EntryNumber;
 use record::Place;
 use record::Refusal;
+use register::Details;
+use register::Numbers;
 use register::Register;
 use register::Row;
 
@@ -62,9 +65,8 @@ pub struct LogbookReading {
     pub position: usize,
     pub count: usize,
     pub held: usize,
-    pub numbers: [u32; 32],
-    pub places: [u32; 32],
-    pub lengths: [u32; 32],
+    pub numbers: Numbers,
+    pub details: Details,
 }
 
 #[repr(C)]
@@ -131,7 +133,7 @@ fn started(r: Started) -> LogbookStarted
 
 #[no_mangle]
 pub extern "C" fn logbook_start(buf: &mut [u8], uuid: &[u8], free_part: &[u8]) -> LogbookStarted
-    ensures { λ r. ⌜ (r ≡ startedAs ((Calls.start (now (uuid .entry)) (now («free_part» .entry)) (now (buf .entry))) .answer)) × (now (buf .exit) ≡ (Calls.start (now (uuid .entry)) (now («free_part» .entry)) (now (buf .entry))) .buffer) ⌝ }
+    ensures { λ r. ⌜ Starts (now (uuid .entry)) (now («free_part» .entry)) (now (buf .entry)) (now (buf .exit)) r ⌝ }
 {
     started(appending::start(buf, uuid, free_part))
 }
@@ -163,7 +165,7 @@ pub extern "C" fn logbook_append(
     uri: &[u8],
     bytes: &[u8],
 ) -> LogbookAppended
-    ensures { λ r. ⌜ (r ≡ appendedAs used ((callOn logbook (Calls.append (now (uri .entry)) (now (bytes .entry))) (bookIn (now (buf .entry)) used)) .answer)) × (bookIn (now (buf .exit)) (r .used) ≡ (callOn logbook (Calls.append (now (uri .entry)) (now (bytes .entry))) (bookIn (now (buf .entry)) used)) .book) ⌝ }
+    ensures { λ r. ⌜ Appends (Calls.append (now (uri .entry)) (now (bytes .entry))) (now (buf .entry)) used (now (buf .exit)) r ⌝ }
 {
     appended(used, appending::append(buf, used, uri, bytes))
 }
@@ -175,7 +177,7 @@ pub extern "C" fn logbook_assign(
     number: u32,
     uri: &[u8],
 ) -> LogbookAppended
-    ensures { λ r. ⌜ (r ≡ appendedAs used ((callOn logbook (Calls.assign number (now (uri .entry))) (bookIn (now (buf .entry)) used)) .answer)) × (bookIn (now (buf .exit)) (r .used) ≡ (callOn logbook (Calls.assign number (now (uri .entry))) (bookIn (now (buf .entry)) used)) .book) ⌝ }
+    ensures { λ r. ⌜ Appends (Calls.assign number (now (uri .entry))) (now (buf .entry)) used (now (buf .exit)) r ⌝ }
 {
     appended(used, appending::assign(buf, used, number, uri))
 }
@@ -200,7 +202,7 @@ fn erased(r: Erased) -> LogbookErased
 
 #[no_mangle]
 pub extern "C" fn logbook_erase(buf: &mut [u8], used: usize, place: usize) -> LogbookErased
-    ensures { λ r. ⌜ (r ≡ erasedAs ((callOn logbook (Calls.erase place) (bookIn (now (buf .entry)) used)) .answer)) × (bookIn (now (buf .exit)) used ≡ (callOn logbook (Calls.erase place) (bookIn (now (buf .entry)) used)) .book) ⌝ }
+    ensures { λ r. ⌜ Keeps erasedAs (Calls.erase place) (now (buf .entry)) used (now (buf .exit)) r ⌝ }
 {
     erased(erasing::erase(buf, used, Place(place)))
 }
@@ -232,7 +234,7 @@ pub extern "C" fn logbook_wipe(
     place: usize,
     limit: usize,
 ) -> LogbookWiped
-    ensures { λ r. ⌜ (r ≡ wipedAs ((callOn logbook (Calls.wipe place limit) (bookIn (now (buf .entry)) used)) .answer)) × (bookIn (now (buf .exit)) used ≡ (callOn logbook (Calls.wipe place limit) (bookIn (now (buf .entry)) used)) .book) ⌝ }
+    ensures { λ r. ⌜ Keeps wipedAs (Calls.wipe place limit) (now (buf .entry)) used (now (buf .exit)) r ⌝ }
 {
     wiped(erasing::wipe(buf, used, Place(place), limit))
 }
@@ -241,12 +243,10 @@ fn reading_from(r: LogbookReading) -> Reading
     ensures { λ x. ⌜ x ≡ readingFrom r ⌝ }
 {
     let numbers = r.numbers;
-    let places = r.places;
-    let lengths = r.lengths;
+    let details = r.details;
     let register = Register {
         numbers,
-        places,
-        lengths,
+        details,
         held: r.held,
     };
     Reading {
@@ -260,15 +260,13 @@ fn reading_as(r: Reading) -> LogbookReading
     ensures { λ x. ⌜ x ≡ readingAs r ⌝ }
 {
     let numbers = r.register.numbers;
-    let places = r.register.places;
-    let lengths = r.register.lengths;
+    let details = r.register.details;
     LogbookReading {
         position: r.position.0,
         count: r.count.0,
         held: r.register.held,
         numbers,
-        places,
-        lengths,
+        details,
     }
 }
 
@@ -383,8 +381,7 @@ pub extern "C" fn logbook_step(buf: &[u8], used: usize, reading: LogbookReading)
     ensures { λ r. ⌜ Steps (now (buf .entry)) used reading r ⌝ }
 {
     let mut numbers = reading.numbers;
-    let mut places = reading.places;
-    let mut lengths = reading.lengths;
+    let mut details = reading.details;
     let position = Place(reading.position);
     let count = EntryNumber(reading.count);
     let t = reading::advance(
@@ -393,8 +390,7 @@ pub extern "C" fn logbook_step(buf: &[u8], used: usize, reading: LogbookReading)
         position,
         count,
         &mut numbers,
-        &mut places,
-        &mut lengths,
+        &mut details,
         reading.held,
     );
     let shown = t.item;
@@ -405,8 +401,7 @@ pub extern "C" fn logbook_step(buf: &[u8], used: usize, reading: LogbookReading)
             count: t.count.0,
             held: t.held,
             numbers,
-            places,
-            lengths,
+            details,
         },
     }
 }
@@ -415,11 +410,7 @@ pub extern "C" fn logbook_step(buf: &[u8], used: usize, reading: LogbookReading)
 pub extern "C" fn logbook_uri(len: usize, used: usize, row: LogbookRow) -> LogbookUri
     ensures { λ r. ⌜ r ≡ uriAs (Calls.resolve len used (rowOf (rowFrom row))) ⌝ }
 {
-    let row = Row {
-        number: row.number,
-        place: row.place,
-        length: row.length,
-    };
+    let row = register::row_with(row.number, row.place, row.length);
     match fit::resolve(len, used, row) {
         Resolved::Log { place, length } => LogbookUri {
             refusal: 0,

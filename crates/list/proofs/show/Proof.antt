@@ -1,9 +1,10 @@
 -- Behind each part the listing goes on from the reading, which has passed a byte for each turn; so the turns are enough.
 use mathlib.Core.Path.{sym, ap, _∙_}
-use Prim.Native.Nat.{_+_, _*_, _≤_}
+use Prim.Native.Nat.{suc, _+_, _*_, _≤_}
 use native.Mathlib.Omega.{arith}
 use borrow.Author.Needs.{needs}
 use denote.Ref.{now}
+use Rattle.format.specs.Figures.{fileLimit}
 use Rattle.format.specs.Reading.{Reading}
 use Rattle.reading.specs.Readings.{readingOf}
 use Rattle.list.specs.Handing.{room, Stands}
@@ -13,7 +14,7 @@ use Rattle.list.proofs.show.Tie as tie
 
 abbrev Inv-loop : tie.InvT-loop
 Inv-loop file out₀ handed₀ reading₀ turns₀ out handed reading turns = Stands file (handed .len) (handed .failed) (readingOf reading)
-    × (handed .len + turns * room ≤ 65537 * room) × (65537 ≤ turns + reading .position .0) × (reading .position .0 ≤ 65536)
+    × (handed .len + turns * room ≤ suc fileLimit * room) × (suc fileLimit ≤ turns + reading .position .0) × (reading .position .0 ≤ fileLimit)
 
 abbrev μ-loop : tie.MeasureT-loop
 μ-loop file out₀ handed₀ reading₀ turns₀ out handed reading turns = turns

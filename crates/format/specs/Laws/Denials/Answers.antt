@@ -10,6 +10,7 @@ use lib.ListN.{length, drop, length-drop, take-append-drop}
 use lib.Dec.{leb, eqb}
 use lib.Seq.{length-take-le}
 use Rattle.format.specs.Laws.Cases.{by-test, by-order, and-left, and-right}
+use Rattle.format.specs.Figures.{usedLimit, integerBytes, integerLimit, dataLimit, headerLength}
 use Rattle.format.specs.Integers.{writeInteger}
 use Rattle.format.specs.Uris.{typeName, isUri, isReserved, appendable}
 use Rattle.format.specs.Register.{isHeld, Names, namedNumber, numberFor, freeFrom}
@@ -24,12 +25,12 @@ use Rattle.format.specs.Laws.Denials.Walks.{walks-mean, refused-numbered
 over-sound : (b : Book) → isOver b ≡ not (sound b)
 unfolding isOver sound
 over-sound b =
-    rw (over-not (b .used) (length (b .buffer)), over-not (b .used) 16777216)
-    (not-and (leb (b .used) (length (b .buffer))) (leb (b .used) 16777216))
+    rw (over-not (b .used) (length (b .buffer)), over-not (b .used) usedLimit)
+    (not-and (leb (b .used) (length (b .buffer))) (leb (b .used) usedLimit))
 
 bad-append : (u d : List ℕ) → badRequest (append u d) ≡ not (mayAppend u d)
 unfolding badRequest mayAppend appendable
-bad-append u d = rw (over-not (length d) 65535) (go (leb (length d) 65535) (isUri u) (isReserved u))
+bad-append u d = rw (over-not (length d) dataLimit) (go (leb (length d) dataLimit) (isUri u) (isReserved u))
   where
     go : (a b c : Bool) → (not a || (not b || c)) ≡ not (a && (b && not c))
     go false b c = refl
@@ -39,7 +40,7 @@ bad-append u d = rw (over-not (length d) 65535) (go (leb (length d) 65535) (isUr
 
 bad-assign : (n : ℕ) (u : List ℕ) → badRequest (assign n u) ≡ not (mayAssign n u)
 unfolding badRequest mayAssign
-bad-assign n u = rw (zero-not n, over-not n 268435455) (go (leb 1 n) (leb n 268435455) (assignable n u))
+bad-assign n u = rw (zero-not n, over-not n integerLimit) (go (leb 1 n) (leb n integerLimit) (assignable n u))
   where
     zero-not : (m : ℕ) → eqb m 0 ≡ not (leb 1 m)
     zero-not zero = refl
@@ -56,11 +57,11 @@ data Verdict (c : Call) (s : Parts) : Option Refusal → Left → Type 0 where
 module _ (b : Book) (h : sound b ≡ true) where
   used-inside : b .used ≤ length (b .buffer)
   unfolding sound
-  used-inside = leb-true (b .used) (length (b .buffer)) (and-left (leb (b .used) (length (b .buffer))) (leb (b .used) 16777216) h)
+  used-inside = leb-true (b .used) (length (b .buffer)) (and-left (leb (b .used) (length (b .buffer))) (leb (b .used) usedLimit) h)
 
-  used-few : b .used ≤ 16777216
+  used-few : b .used ≤ usedLimit
   unfolding sound
-  used-few = leb-true (b .used) 16777216 (and-right (leb (b .used) (length (b .buffer))) (leb (b .used) 16777216) h)
+  used-few = leb-true (b .used) usedLimit (and-right (leb (b .used) (length (b .buffer))) (leb (b .used) usedLimit) h)
 
   used-length : length (usedBytes b) ≡ b .used
   used-length = length-take-le (b .used) (b .buffer) used-inside
@@ -73,13 +74,13 @@ module _ (b : Book) (h : sound b ≡ true) where
   nothing-fits =
       let a = used-inside in
       let c = used-few in
-      rw (le-ltb (length (b .buffer)) (b .used + 0) (omega arith), le-ltb 16777216 (b .used + 0) (omega arith))
+      rw (le-ltb (length (b .buffer)) (b .used + 0) (omega arith), le-ltb usedLimit (b .used + 0) (omega arith))
 
-  fit-not : (w : List ℕ) → doesNotFit w b ≡ not (leb (length w) (length (drop (b .used) (b .buffer))) && leb (length (usedBytes b) + length w) 16777216)
+  fit-not : (w : List ℕ) → doesNotFit w b ≡ not (leb (length w) (length (drop (b .used) (b .buffer))) && leb (length (usedBytes b) + length w) usedLimit)
   unfolding doesNotFit
   fit-not w =
-      rw (used-length, over-not (b .used + length w) 16777216, over-not (b .used + length w) (length (b .buffer)), inside)
-      (not-and (leb (length w) (length (drop (b .used) (b .buffer)))) (leb (b .used + length w) 16777216))
+      rw (used-length, over-not (b .used + length w) usedLimit, over-not (b .used + length w) (length (b .buffer)), inside)
+      (not-and (leb (length w) (length (drop (b .used) (b .buffer)))) (leb (b .used + length w) usedLimit))
     where
       inside : leb (b .used + length w) (length (b .buffer)) ≡ leb (length w) (length (drop (b .used) (b .buffer)))
       inside =
@@ -93,7 +94,7 @@ module _ (b : Book) (h : sound b ≡ true) where
       → Verdict c (parted b) (cond (doesNotFit w b) (some (refusal 12 (b .used))) none) (write off w (parted b))
   unfolding write parted
   write-verdict c off w own =
-      by-test (leb (length w) (length (drop (b .used) (b .buffer))) && leb (length (usedBytes b) + length w) 16777216)
+      by-test (leb (length w) (length (drop (b .used) (b .buffer))) && leb (length (usedBytes b) + length w) usedLimit)
       (λ f. rw (fit-not w, f) (does _ _ (own _ _)))
       (λ f. rw (fit-not w, f, used-length) (denies _))
 
@@ -112,7 +113,7 @@ module _ (b : Book) (h : sound b ≡ true) where
   assign-stage g n u none e = rw e (denies _)
   assign-stage g n u (some t) e =
       by-test (roomFor n u g)
-      (λ f. rw (e, too-many n u g, f) (write-verdict (assign n u) 0 (recordOf t (writeInteger 4 n ++ u)) (assigns n u)))
+      (λ f. rw (e, too-many n u g, f) (write-verdict (assign n u) 0 (recordOf t (writeInteger integerBytes n ++ u)) (assigns n u)))
       (λ f. rw (e, too-many n u g, f) (full-verdict (assign n u)))
 
   new-stage : (g : Names) (u d : List ℕ) → numberFor u g ≡ none → (x : Option ℕ) → numberFor typeName g ≡ x
@@ -307,16 +308,16 @@ module _ (uuid free buffer : List ℕ) where
   pub start-refusal : refusalOfStarted (start uuid free buffer .answer) ≡ firstOf (startRules uuid free buffer)
   unfolding start startRules firstOf
   start-refusal =
-      rw (not-and (eqb (length uuid) 16) (eqb (length free) 60), over-not 109 (length buffer))
+      rw (not-and (eqb (length uuid) 16) (eqb (length free) 60), over-not headerLength (length buffer))
       (by-test (eqb (length uuid) 16 && eqb (length free) 60)
-      (λ h. by-test (leb 109 (length buffer)) (λ f. rw (h, f)) (λ f. rw (h, f)))
+      (λ h. by-test (leb headerLength (length buffer)) (λ f. rw (h, f)) (λ f. rw (h, f)))
       (λ h. rw h))
 
   pub start-keeps : (x : Refusal) → refusalOfStarted (start uuid free buffer .answer) ≡ some x → start uuid free buffer .buffer ≡ buffer
   unfolding start
   start-keeps x =
       by-test (eqb (length uuid) 16 && eqb (length free) 60)
-      (λ h. by-test (leb 109 (length buffer)) (λ f. rw (h, f) (λ e. none-some e)) (λ f. rw (h, f) (λ e. refl)))
+      (λ h. by-test (leb headerLength (length buffer)) (λ f. rw (h, f) (λ e. none-some e)) (λ f. rw (h, f) (λ e. refl)))
       (λ h. rw h (λ e. refl))
 
   pub start-numbered : (x : Refusal) → refusalOfStarted (start uuid free buffer .answer) ≡ some x → InTable x

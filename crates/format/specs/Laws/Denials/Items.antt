@@ -13,6 +13,7 @@ use Rattle.format.specs.Laws.Cases.{by-test, by-order, from-zero-one, an
 use Rattle.format.specs.Bytes.{same}
 use Rattle.format.specs.Laws.Bytes.{same-equal}
 use Rattle.format.specs.Text.{ascii}
+use Rattle.format.specs.Figures.{rowLimit, headerLength}
 use Rattle.format.specs.Integers.{Integer, value, broken, notOver}
 use Rattle.format.specs.Uris.{typeName, headerName}
 use Rattle.format.specs.Header.{headerForm}
@@ -85,12 +86,15 @@ not-and false b = refl
 
 pub too-many : (n : ℕ) (u : List ℕ) (g : Names) → isTooMany n u g ≡ not (roomFor n u g)
 unfolding isTooMany roomFor hasRoom
-too-many n [] g = and-false (leb 32 (length g))
+too-many n [] g = and-false (leb rowLimit (length g))
 too-many n (c ∷ u) g = go (isHeld (find namedNumber n g))
   where
-    go : (t : Bool) → (leb 32 (length g) && not t) ≡ not (t || ltb (length g) 32)
-    go true = and-false (leb 32 (length g))
-    go false = by-order (length g) 32 (λ h. rw (lt-ltb (length g) 32 h, lt-leb 32 (length g) h)) (λ h. rw (le-ltb (length g) 32 h, le-leb 32 (length g) h))
+    go : (t : Bool) → (leb rowLimit (length g) && not t) ≡ not (t || ltb (length g) rowLimit)
+    go true = and-false (leb rowLimit (length g))
+    go false =
+        by-order (length g) rowLimit
+        (λ h. rw (lt-ltb (length g) rowLimit h, lt-leb rowLimit (length g) h))
+        (λ h. rw (le-ltb (length g) rowLimit h, le-leb rowLimit (length g) h))
 
 positive : (k : ℕ) → eqb (suc k) 0 ≡ false
 positive k = ne-eqb (suc k) 0 (λ e. omega arith)
@@ -164,9 +168,9 @@ element-refusal g p (suc x) xs = size-stage g p (suc x ∷ xs) (sizeAt (suc x �
 header-refusal : (l : List ℕ) → refusalOfGot (headerAt l) ≡ firstOf (headerRules l)
 unfolding headerAt headerRules firstOf
 header-refusal l =
-    by-test (leb 109 (length l))
-    (λ h. by-test (headerForm (take 109 l)) (λ f. rw (over-not 109 (length l), h, f)) (λ f. rw (over-not 109 (length l), h, f)))
-    (λ h. rw (over-not 109 (length l), h))
+    by-test (leb headerLength (length l))
+    (λ h. by-test (headerForm (take headerLength l)) (λ f. rw (over-not headerLength (length l), h, f)) (λ f. rw (over-not headerLength (length l), h, f)))
+    (λ h. rw (over-not headerLength (length l), h))
 
 -- the item at p, of the bytes x ∷ xs
 pub item-refusal : (o : Origin) (g : Names) (p x : ℕ) (xs : List ℕ) → refusalOfGot (item o g p x xs) ≡ firstOf (itemRules o g p (x ∷ xs))

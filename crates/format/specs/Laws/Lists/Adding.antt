@@ -3,7 +3,7 @@ use mathlib.Core.Path.{_≡_, refl, sym, ap, _∙_, subst}
 use mathlib.Core.Bool.{true, _&&_}
 use mathlib.Core.List.{List, [], _∷_, _++_, append-assoc, append-nil}
 use mathlib.Core.Option.{Option, none, some, Option·map}
-use Prim.Native.Nat.{ℕ, zero, suc, _+_, _≤_, _<_}
+use Prim.Native.Nat.{ℕ, zero, suc, _+_, _≤_}
 use native.Mathlib.Omega.{arith}
 use native.Mathlib.Nat.{add-zero, add-assoc}
 use borrow.Author.Tests.{leb-true, eq-eqb}
@@ -11,6 +11,7 @@ use lib.ListN.{length, drop, length-append, length-drop}
 use lib.Dec.{leb}
 use lib.Seq.{drop-at, drop-append-add}
 use Rattle.format.specs.Laws.Cases.{by-test, from-zero-one, and-left, and-right}
+use Rattle.format.specs.Figures.{usedLimit, integerBytes, integerLimit, dataLimit, uriLimit}
 use Rattle.format.specs.Integers.{writeInteger}
 use Rattle.format.specs.Uris.{typeName, headerName, appendable}
 use Rattle.format.specs.Laws.Uris.{appendable-type, appendable-header}
@@ -46,19 +47,19 @@ logbook-more : {l : List ℕ} {es : List Listed} {r r1 : Register} → Logbook l
 logbook-more (logbookOf h {x = x} f s) w e el = rw (append-assoc h x w) (logbookOf h f (sequence-more s w e (rw (length-append h x) at el)))
 
 -- ---- what is written
-pub written-integer : (n : ℕ) → n < 268435456 → Writing (writeInteger 4 n) n
-written-integer n h = size-of (writeInteger 4 n) n (rw append-nil at (write-reads n h []))
+pub written-integer : (n : ℕ) → n ≤ integerLimit → Writing (writeInteger integerBytes n) n
+written-integer n h = size-of (writeInteger integerBytes n) n (rw append-nil at (write-reads n h []))
 
 written-record : (t : ℕ) (d : List ℕ) → Number t → length d ≤ 70000 → RecordOf (recordOf t d) t d
 unfolding recordOf
 written-record t d (a, b) l =
     let e = write-long t b in
-    let z : length (writeInteger 4 t ++ d) ≡ length (writeInteger 4 t) + length d = length-append (writeInteger 4 t) d in
+    let z : length (writeInteger integerBytes t ++ d) ≡ length (writeInteger integerBytes t) + length d = length-append (writeInteger integerBytes t) d in
     record {
-      size = writeInteger 4 (length (writeInteger 4 t) + length d);
-      type = writeInteger 4 t;
+      size = writeInteger integerBytes (length (writeInteger integerBytes t) + length d);
+      type = writeInteger integerBytes t;
       all = refl;
-      sized = rw z (written-integer (length (writeInteger 4 t) + length d) (omega arith));
+      sized = rw z (written-integer (length (writeInteger integerBytes t) + length d) (omega arith));
       typed = written-integer t b;
     }
 
@@ -118,21 +119,21 @@ module _ (l : List ℕ) (g : Names) (s : Stands l g) where
   free-numbers : Number (free g)
   free-numbers = let k = free-bounds namedNumber 1 g in (k .0, omega (arith, s .few))
 
-  held-record : (u d : List ℕ) (n : ℕ) → length d ≤ 65535 → numberFor u g ≡ some n → RecordOf (recordOf n d) n d
+  held-record : (u d : List ℕ) (n : ℕ) → length d ≤ dataLimit → numberFor u g ≡ some n → RecordOf (recordOf n d) n d
   held-record u d n f h = written-record n d (held-by l g u n s h .number) (omega arith)
 
-  pub assign-record : (t k : ℕ) (u : List ℕ) → k < 268435456 → length u ≤ 255 → numberFor typeName g ≡ some t → RecordOf (recordOf t (writeInteger 4 k ++ u)) t (writeInteger 4 k ++ u)
-  assign-record t k u a f h = let w = write-long k a in held-record typeName (writeInteger 4 k ++ u) t (rw length-append (omega arith)) h
+  pub assign-record : (t k : ℕ) (u : List ℕ) → k ≤ integerLimit → length u ≤ uriLimit → numberFor typeName g ≡ some t → RecordOf (recordOf t (writeInteger integerBytes k ++ u)) t (writeInteger integerBytes k ++ u)
+  assign-record t k u a f h = let w = write-long k a in held-record typeName (writeInteger integerBytes k ++ u) t (rw length-append (omega arith)) h
 
   pub added-held : (u d : List ℕ) (n : ℕ) → AskedAppend u d → numberFor u g ≡ some n → Added (meaning g) (length l) u d (recordOf n d) (listedAt (length l) u d ∷ []) (meaning g) (length l)
   added-held u d n a h = asHeld n (least-number l g u n s h) (held-record u d n (a .fewBytes) h)
 
-  free-record : (d : List ℕ) → length d ≤ 65535 → RecordOf (recordOf (free g) d) (free g) d
+  free-record : (d : List ℕ) → length d ≤ dataLimit → RecordOf (recordOf (free g) d) (free g) d
   free-record d f = written-record (free g) d free-numbers (omega arith)
 
   pub added-new : (u d : List ℕ) (t : ℕ) → AskedAppend u d → numberFor u g ≡ none → numberFor typeName g ≡ some t
-      → Added (meaning g) (length l) u d (recordOf t (writeInteger 4 (free g) ++ u) ++ recordOf (free g) d)
-      (listedAt (length l) typeName (writeInteger 4 (free g) ++ u) ∷ listedAt (length l + length (recordOf t (writeInteger 4 (free g) ++ u))) u d ∷ []) (change (meaning g) (free g) (some u)) (length l + length (recordOf t (writeInteger 4 (free g) ++ u)))
+      → Added (meaning g) (length l) u d (recordOf t (writeInteger integerBytes (free g) ++ u) ++ recordOf (free g) d)
+      (listedAt (length l) typeName (writeInteger integerBytes (free g) ++ u) ∷ listedAt (length l + length (recordOf t (writeInteger integerBytes (free g) ++ u))) u d ∷ []) (change (meaning g) (free g) (some u)) (length l + length (recordOf t (writeInteger integerBytes (free g) ++ u)))
   added-new u d t a h ht =
       asNew t (free g) (no-number g u h) (least-number l g typeName t s ht) (free-number g (s .rising)) (assign-record t (free g) u (free-numbers .1) (a .uriShort) ht)
       (written-integer (free g) (free-numbers .1)) (free-record d (a .fewBytes))
@@ -143,7 +144,7 @@ not-appended e = from-zero-one (let d = answer-of e in cc)
 
 record Wrote (off : ℕ) (w l rest : List ℕ) (q n : ℕ) (s1 : Parts) : Type 0 where
   fits : length w ≤ length rest
-  small : length l + length w ≤ 16777216
+  small : length l + length w ≤ usedLimit
   place : q ≡ length l + off
   used : n ≡ length l + length w
   after : s1 ≡ parts (l ++ w) (drop (length w) rest)
@@ -151,7 +152,7 @@ record Wrote (off : ℕ) (w l rest : List ℕ) (q n : ℕ) (s1 : Parts) : Type 0
 wrote : (off : ℕ) (w l rest : List ℕ) (q n : ℕ) (s1 : Parts) → write off w (parts l rest) ≡ (appended q n, s1) → Wrote off w l rest q n s1
 unfolding write
 wrote off w l rest q n s1 e =
-    by-test (leb (length w) (length rest) && leb (length l + length w) 16777216)
+    by-test (leb (length w) (length rest) && leb (length l + length w) usedLimit)
     (λ h. let f = rw h at e in
     let d : appended (length l + off) (length l + length w) ≡ appended q n = answer-of f in
     record {
@@ -163,7 +164,7 @@ wrote off w l rest q n s1 e =
     })
     (λ h. not-appended (rw h at e))
 
-grown : (w l rest : List ℕ) (n : ℕ) (es new : List Listed) (r r1 : Register) → length l ≤ 16777216 → length w ≤ length rest → length l + length w ≤ 16777216 → n ≡ length l + length w → Logbook l es r → Logbook (l ++ w) (es ++ new) r1
+grown : (w l rest : List ℕ) (n : ℕ) (es new : List Listed) (r r1 : Register) → length l ≤ usedLimit → length w ≤ length rest → length l + length w ≤ usedLimit → n ≡ length l + length w → Logbook l es r → Logbook (l ++ w) (es ++ new) r1
     → Grown (bookOf (parts l rest)) (bookOf (parts (l ++ w) (drop (length w) rest))) w new es r r1 n
 unfolding bookOf
 grown w l rest n es new r r1 b fit small en k k1 =
@@ -183,7 +184,7 @@ grown w l rest n es new r r1 b fit small en k k1 =
     }
 
 -- ---- the calls, on a log that is walked to its end
-module _ (l rest : List ℕ) (b : length l ≤ 16777216) (some-bytes : 1 ≤ length l) (g : Names) (walks : walk logbook 0 [] 0 l ≡ whole g) where
+module _ (l rest : List ℕ) (b : length l ≤ usedLimit) (some-bytes : 1 ≤ length l) (g : Names) (walks : walk logbook 0 [] 0 l ≡ whole g) where
   stands : Stands l g
   stands = walk-stands l logbook 0 [] g 0 l refl (stands-more [] l [] (stands-none [])) walks
 
@@ -204,12 +205,12 @@ module _ (l rest : List ℕ) (b : length l ≤ 16777216) (some-bytes : 1 ≤ len
         (appends (added-held l g stands u d n asked h) (grown (recordOf n d) l rest N (roll logbook 0 [] 0 l) (listedAt (length l) u d ∷ []) (meaning g) (meaning g) b (w .fits) (w .small) (w .used) before k1))
 
     append-new : (t q N : ℕ) (s1 : Parts) → numberFor u g ≡ none → numberFor typeName g ≡ some t → roomFor (free g) u g ≡ true
-        → Wrote (length (recordOf t (writeInteger 4 (free g) ++ u))) (recordOf t (writeInteger 4 (free g) ++ u) ++ recordOf (free g) d) l rest q N s1 → Appends (bookOf (parts l rest)) (bookOf s1) u d q N
+        → Wrote (length (recordOf t (writeInteger integerBytes (free g) ++ u))) (recordOf t (writeInteger integerBytes (free g) ++ u) ++ recordOf (free g) d) l rest q N s1 → Appends (bookOf (parts l rest)) (bookOf s1) u d q N
     unfolding bookOf
     append-new t q N s1 h ht rm w =
         let v : ℕ = free g in
         let nv : Number v = free-numbers l g stands in
-        let m : List ℕ = writeInteger 4 v in
+        let m : List ℕ = writeInteger integerBytes v in
         let hb = held-by l g typeName t stands ht in
         let w1 : List ℕ = recordOf t (m ++ u) in
         let c : RecordOf w1 t (m ++ u) = assign-record l g stands t v u (nv .1) (asked .uriShort) ht in
@@ -231,7 +232,7 @@ module _ (l rest : List ℕ) (b : length l ≤ 16777216) (some-bytes : 1 ≤ len
     append-typed (some t) q N s1 ht h e =
         by-test (roomFor (freeFrom namedNumber 1 g) u g)
         (λ r. append-new t q N s1 h ht r
-        (wrote (length (recordOf t (writeInteger 4 (freeFrom namedNumber 1 g) ++ u))) (recordOf t (writeInteger 4 (freeFrom namedNumber 1 g) ++ u) ++ recordOf (freeFrom namedNumber 1 g) d) l rest q N s1 (rw r at e)))
+        (wrote (length (recordOf t (writeInteger integerBytes (freeFrom namedNumber 1 g) ++ u))) (recordOf t (writeInteger integerBytes (freeFrom namedNumber 1 g) ++ u) ++ recordOf (freeFrom namedNumber 1 g) d) l rest q N s1 (rw r at e)))
         (λ r. not-appended (rw r at e))
 
     append-named : (v : Option ℕ) (q N : ℕ) (s1 : Parts) → numberFor u g ≡ v → appendHeld v g u d (parts l rest) ≡ (appended q N, s1) → Appends (bookOf (parts l rest)) (bookOf s1) u d q N
@@ -240,10 +241,10 @@ module _ (l rest : List ℕ) (b : length l ≤ 16777216) (some-bytes : 1 ≤ len
     append-named none q N s1 h e = append-typed (numberFor typeName g) q N s1 refl h e
 
   module _ (k : ℕ) (u : List ℕ) (asked : AskedAssign k u) where
-    assign-one : (t q N : ℕ) (s1 : Parts) → numberFor typeName g ≡ some t → roomFor k u g ≡ true → Wrote 0 (recordOf t (writeInteger 4 k ++ u)) l rest q N s1 → Assigns (bookOf (parts l rest)) (bookOf s1) k u q N
+    assign-one : (t q N : ℕ) (s1 : Parts) → numberFor typeName g ≡ some t → roomFor k u g ≡ true → Wrote 0 (recordOf t (writeInteger integerBytes k ++ u)) l rest q N s1 → Assigns (bookOf (parts l rest)) (bookOf s1) k u q N
     unfolding bookOf
     assign-one t q N s1 ht rm w =
-        let m : List ℕ = writeInteger 4 k in
+        let m : List ℕ = writeInteger integerBytes k in
         let hb = held-by l g typeName t stands ht in
         let w1 : List ℕ = recordOf t (m ++ u) in
         let c : RecordOf w1 t (m ++ u) = assign-record l g stands t k u (asked .number .1) (asked .uriShort) ht in
@@ -259,7 +260,7 @@ module _ (l rest : List ℕ) (b : length l ≤ 16777216) (some-bytes : 1 ≤ len
     assign-typed none q N s1 ht e = not-appended e
     assign-typed (some t) q N s1 ht e =
         by-test (roomFor k u g)
-        (λ r. assign-one t q N s1 ht r (wrote 0 (recordOf t (writeInteger 4 k ++ u)) l rest q N s1 (rw r at e)))
+        (λ r. assign-one t q N s1 ht r (wrote 0 (recordOf t (writeInteger integerBytes k ++ u)) l rest q N s1 (rw r at e)))
         (λ r. not-appended (rw r at e))
 
 -- ---- any log
@@ -272,7 +273,7 @@ unfolding walkAll
 whole-walk l g e =
     by-test (atHeader logbook (length l)) (λ h. not-stop logbook (rw h at e)) (λ h. record { some = past-of (length l) h; walks = rw h at e })
 
-append-walked : (l rest u d : List ℕ) (q N : ℕ) (s1 : Parts) → length l ≤ 16777216 → mayAppend u d ≡ true → (v : Walked) → walkAll logbook l ≡ v → appendWalked v u d (parts l rest) ≡ (appended q N, s1)
+append-walked : (l rest u d : List ℕ) (q N : ℕ) (s1 : Parts) → length l ≤ usedLimit → mayAppend u d ≡ true → (v : Walked) → walkAll logbook l ≡ v → appendWalked v u d (parts l rest) ≡ (appended q N, s1)
     → Appends (bookOf (parts l rest)) (bookOf s1) u d q N
 unfolding appendWalked
 append-walked l rest u d q N s1 b m (stop r) w e = not-appended e
@@ -280,7 +281,7 @@ append-walked l rest u d q N s1 b m (whole g) w e =
     let k = whole-walk l g w in
     append-named l rest b (k .some) g (k .walks) u d (asked-append u d m) (numberFor u g) q N s1 refl e
 
-append-parts : (l rest u d : List ℕ) (q N : ℕ) (s1 : Parts) → length l ≤ 16777216 → call logbook (append u d) (parts l rest) ≡ (appended q N, s1) → Appends (bookOf (parts l rest)) (bookOf s1) u d q N
+append-parts : (l rest u d : List ℕ) (q N : ℕ) (s1 : Parts) → length l ≤ usedLimit → call logbook (append u d) (parts l rest) ≡ (appended q N, s1) → Appends (bookOf (parts l rest)) (bookOf s1) u d q N
 unfolding call
 append-parts l rest u d q N s1 b e =
     by-test (mayAppend u d) (λ m. append-walked l rest u d q N s1 b m (walkAll logbook l) refl (rw m at e)) (λ m. not-appended (rw m at e))
@@ -292,7 +293,7 @@ append-made u d q N b b1 m = rw (m .is, m .now) (append-parts (m .log) (m .rest)
 pub append-exact : (u d : List ℕ) (q N : ℕ) (b b1 : Book) → callOn logbook (append u d) b ≡ record { answer = appended q N; book = b1 } → Appends b b1 u d q N
 append-exact u d q N b b1 e = append-made u d q N b b1 (made-of (append u d) b b1 (appended q N) (λ d. from-zero-one (cc)) e)
 
-assign-walked : (l rest u : List ℕ) (k q N : ℕ) (s1 : Parts) → length l ≤ 16777216 → mayAssign k u ≡ true → (v : Walked) → walkAll logbook l ≡ v → assignWalked v k u (parts l rest) ≡ (appended q N, s1)
+assign-walked : (l rest u : List ℕ) (k q N : ℕ) (s1 : Parts) → length l ≤ usedLimit → mayAssign k u ≡ true → (v : Walked) → walkAll logbook l ≡ v → assignWalked v k u (parts l rest) ≡ (appended q N, s1)
     → Assigns (bookOf (parts l rest)) (bookOf s1) k u q N
 unfolding assignWalked
 assign-walked l rest u k q N s1 b m (stop r) w e = not-appended e
@@ -300,7 +301,7 @@ assign-walked l rest u k q N s1 b m (whole g) w e =
     let x = whole-walk l g w in
     assign-typed l rest b (x .some) g (x .walks) k u (asked-assign k u m) (numberFor typeName g) q N s1 refl e
 
-assign-parts : (l rest u : List ℕ) (k q N : ℕ) (s1 : Parts) → length l ≤ 16777216 → call logbook (assign k u) (parts l rest) ≡ (appended q N, s1) → Assigns (bookOf (parts l rest)) (bookOf s1) k u q N
+assign-parts : (l rest u : List ℕ) (k q N : ℕ) (s1 : Parts) → length l ≤ usedLimit → call logbook (assign k u) (parts l rest) ≡ (appended q N, s1) → Assigns (bookOf (parts l rest)) (bookOf s1) k u q N
 unfolding call
 assign-parts l rest u k q N s1 b e =
     by-test (mayAssign k u) (λ m. assign-walked l rest u k q N s1 b m (walkAll logbook l) refl (rw m at e)) (λ m. not-appended (rw m at e))

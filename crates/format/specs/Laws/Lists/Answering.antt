@@ -11,6 +11,7 @@ use lib.ListN.{length, take, drop, length-append}
 use lib.Dec.{leb}
 use lib.Seq.{take-at, drop-at}
 use Rattle.format.specs.Laws.Cases.{by-test, from-zero-one}
+use Rattle.format.specs.Figures.{usedLimit, integerBytes}
 use Rattle.format.specs.Integers.{writeInteger}
 use Rattle.format.specs.Uris.{typeName}
 use Rattle.format.specs.Register.{Rising, Names, namedNumber, uriOf, numberFor, hasRoom}
@@ -53,7 +54,7 @@ pub wipe-answers : (b : Book) → sound b ≡ true → (lo w x d : List ℕ) (es
 wipe-answers b s lo w x d es r m =
     on-sound (λ (c : Book). usedBytes c ≡ lo ++ (w ++ x) → Logbook lo es r → RecordOf w 0 d → (b1 : Book) × (callOn logbook (wipe (length lo) m) c ≡ record { answer = wiped (min m (nonzeros w)); book = b1 })) go b s
   where
-    go : (l rest : List ℕ) → length l ≤ 16777216 → usedBytes (bookOf (parts l rest)) ≡ lo ++ (w ++ x) → Logbook lo es r → RecordOf w 0 d
+    go : (l rest : List ℕ) → length l ≤ usedLimit → usedBytes (bookOf (parts l rest)) ≡ lo ++ (w ++ x) → Logbook lo es r → RecordOf w 0 d
         → (b1 : Book) × (callOn logbook (wipe (length lo) m) (bookOf (parts l rest)) ≡ record { answer = wiped (min m (nonzeros w)); book = b1 })
     go l rest f e k c =
         let el : l ≡ lo ++ (w ++ x) = sym (used-of l rest) ∙ e in
@@ -68,11 +69,11 @@ data Written (off : ℕ) (w l rest : List ℕ) : Type 0 where
 
 written : (off : ℕ) (w l rest : List ℕ) → Written off w l rest
 unfolding write bookOf
-written off w l rest = go (leb (length w) (length rest)) refl (leb (length l + length w) 16777216) refl
+written off w l rest = go (leb (length w) (length rest)) refl (leb (length l + length w) usedLimit) refl
   where
-    go : (a : Bool) → leb (length w) (length rest) ≡ a → (b : Bool) → leb (length l + length w) 16777216 ≡ b → Written off w l rest
+    go : (a : Bool) → leb (length w) (length rest) ≡ a → (b : Bool) → leb (length l + length w) usedLimit ≡ b → Written off w l rest
     go true x true y = goesIn (length l + off) (length l + length w) (parts (l ++ w) (drop (length w) rest)) (rw (x, y))
-    go true x false y = tooLong (overLimit (leb-false (length l + length w) 16777216 y)) (rw (x, y))
+    go true x false y = tooLong (overLimit (leb-false (length l + length w) usedLimit y)) (rw (x, y))
     go false x b y = tooLong (overBuffer (rw length-append (omega (arith, leb-false (length w) (length rest) x)))) (rw x)
 
 -- ---- no room: 32 numbers are held, and this one isn't
@@ -104,7 +105,7 @@ roomy g k (c ∷ u) e n o f = go (of-room g k e)
     go (further ms l h) = f ms l h
 
 -- ---- a logbook that is walked to its end
-module _ (l rest : List ℕ) (b : length l ≤ 16777216) (some-bytes : 1 ≤ length l) (g : Names) (walks : walk logbook 0 [] 0 l ≡ whole g) where
+module _ (l rest : List ℕ) (b : length l ≤ usedLimit) (some-bytes : 1 ≤ length l) (g : Names) (walks : walk logbook 0 [] 0 l ≡ whole g) where
   stands : Stands l g
   stands = walk-stands l logbook 0 [] g 0 l refl (stands-more [] l [] (stands-none [])) walks
 
@@ -127,8 +128,8 @@ module _ (l rest : List ℕ) (b : length l ≤ 16777216) (some-bytes : 1 ≤ len
     append-new h none ht = noType (no-number g u h) (no-number g typeName ht) (append-does (denied (refusal 11 0)) (parts l rest) (rw (h, ht)))
     append-new h (some t) ht =
         by-test (roomFor (free g) u g)
-        (λ rm. let w : List ℕ = recordOf t (writeInteger 4 (free g) ++ u) in
-        append-written (length w) (w ++ recordOf (free g) d) (listedAt (length l) typeName (writeInteger 4 (free g) ++ u) ∷ listedAt (length l + length w) u d ∷ []) (change (meaning g) (free g) (some u)) (length l + length w)
+        (λ rm. let w : List ℕ = recordOf t (writeInteger integerBytes (free g) ++ u) in
+        append-written (length w) (w ++ recordOf (free g) d) (listedAt (length l) typeName (writeInteger integerBytes (free g) ++ u) ∷ listedAt (length l + length w) u d ∷ []) (change (meaning g) (free g) (some u)) (length l + length w)
         (added-new l g stands u d t asked h ht) (λ n. roomy g (free g) u rm (free-number g (stands .rising) .notHeld) (asked .uriSome)) (rw (h, ht, rm)) (written (length w) (w ++ recordOf (free g) d) l rest))
         (λ rm. noRoom t (no-number g u h) (least-number l g typeName t stands ht) (cramped g (free g) u (stands .rising) rm .full) (append-does (denied (refusal 7 (length l))) (parts l rest) (rw (h, ht, rm))))
 
@@ -142,13 +143,13 @@ module _ (l rest : List ℕ) (b : length l ≤ 16777216) (some-bytes : 1 ≤ len
     unfolding call assignWalked
     assign-does x s1 e = call-sound (assign k u) l rest b ∙ rw (may, walk-start logbook l (past-start logbook (length l) some-bytes), walks, e)
 
-    assign-written : (t : ℕ) → numberFor typeName g ≡ some t → roomFor k u g ≡ true → assignUnder (numberFor typeName g) g k u (parts l rest) ≡ write 0 (recordOf t (writeInteger 4 k ++ u)) (parts l rest) → Written 0 (recordOf t (writeInteger 4 k ++ u)) l rest
+    assign-written : (t : ℕ) → numberFor typeName g ≡ some t → roomFor k u g ≡ true → assignUnder (numberFor typeName g) g k u (parts l rest) ≡ write 0 (recordOf t (writeInteger integerBytes k ++ u)) (parts l rest) → Written 0 (recordOf t (writeInteger integerBytes k ++ u)) l rest
         → AssignAnswer (bookOf (parts l rest)) k u (meaning g)
     unfolding bookOf
     assign-written t ht rm e (goesIn p n s1 x) = putIn p n (bookOf s1) (assign-does (appended p n) s1 (e ∙ x))
     assign-written t ht rm e (tooLong v x) =
         let a : AskedAssign k u = asked-assign k u may in
-        noFit t (recordOf t (writeInteger 4 k ++ u)) (writeInteger 4 k) (least-number l g typeName t stands ht) (assign-record l g stands t k u (a .number .1) (a .uriShort) ht) (written-integer k (a .number .1)) (roomy g k u rm) v
+        noFit t (recordOf t (writeInteger integerBytes k ++ u)) (writeInteger integerBytes k) (least-number l g typeName t stands ht) (assign-record l g stands t k u (a .number .1) (a .uriShort) ht) (written-integer k (a .number .1)) (roomy g k u rm) v
         (assign-does (denied (refusal 12 (length l))) (parts l rest) (e ∙ x))
 
     assign-typed : (p : Option ℕ) → numberFor typeName g ≡ p → AssignAnswer (bookOf (parts l rest)) k u (meaning g)
@@ -156,7 +157,7 @@ module _ (l rest : List ℕ) (b : length l ≤ 16777216) (some-bytes : 1 ≤ len
     assign-typed none ht = noType (no-number g typeName ht) (assign-does (denied (refusal 11 0)) (parts l rest) (rw ht))
     assign-typed (some t) ht =
         by-test (roomFor k u g)
-        (λ rm. assign-written t ht rm (rw (ht, rm)) (written 0 (recordOf t (writeInteger 4 k ++ u)) l rest))
+        (λ rm. assign-written t ht rm (rw (ht, rm)) (written 0 (recordOf t (writeInteger integerBytes k ++ u)) l rest))
         (λ rm. let c : Cramped g k u = cramped g k u (stands .rising) rm in
         noRoom t (least-number l g typeName t stands ht) (c .notHeld) (c .someUri) (c .full) (assign-does (denied (refusal 7 (length l))) (parts l rest) (rw (ht, rm))))
 
@@ -164,7 +165,7 @@ module _ (l rest : List ℕ) (b : length l ≤ 16777216) (some-bytes : 1 ≤ len
 pub append-answers : (b : Book) → sound b ≡ true → (u d : List ℕ) (es : List Listed) (r : Register) → mayAppend u d ≡ true → Logbook (usedBytes b) es r → AppendAnswer b u d r
 append-answers b s u d es r may = on-sound (λ (c : Book). Logbook (usedBytes c) es r → AppendAnswer c u d r) go b s
   where
-    go : (l rest : List ℕ) → length l ≤ 16777216 → Logbook (usedBytes (bookOf (parts l rest))) es r → AppendAnswer (bookOf (parts l rest)) u d r
+    go : (l rest : List ℕ) → length l ≤ usedLimit → Logbook (usedBytes (bookOf (parts l rest))) es r → AppendAnswer (bookOf (parts l rest)) u d r
     go l rest f k =
         let kl : Logbook l es r = rw (used-of l rest) at k in
         let x = parse-logbook kl in
@@ -173,7 +174,7 @@ append-answers b s u d es r may = on-sound (λ (c : Book). Logbook (usedBytes c)
 pub assign-answers : (b : Book) → sound b ≡ true → (k : ℕ) (u : List ℕ) (es : List Listed) (r : Register) → mayAssign k u ≡ true → Logbook (usedBytes b) es r → AssignAnswer b k u r
 assign-answers b s k u es r may = on-sound (λ (c : Book). Logbook (usedBytes c) es r → AssignAnswer c k u r) go b s
   where
-    go : (l rest : List ℕ) → length l ≤ 16777216 → Logbook (usedBytes (bookOf (parts l rest))) es r → AssignAnswer (bookOf (parts l rest)) k u r
+    go : (l rest : List ℕ) → length l ≤ usedLimit → Logbook (usedBytes (bookOf (parts l rest))) es r → AssignAnswer (bookOf (parts l rest)) k u r
     go l rest f q =
         let kl : Logbook l es r = rw (used-of l rest) at q in
         let x = parse-logbook kl in

@@ -5,6 +5,7 @@ use Prim.Native.Nat.{ℕ, suc, min, _+_, _≤_, _<_}
 use native.Mathlib.Omega.{arith}
 use lib.ListN.{length, take, drop, set}
 use lib.Seq.{take-at, drop-at, set-append-left}
+use Rattle.format.specs.Figures.{usedLimit}
 use Rattle.format.specs.Laws.Cases.{by-test, from-zero-one}
 use Rattle.format.specs.Records.{Refusal, refusal, Kind, plain, header, assignment, Entry, padding, deleted, live, logbook, atHeader}
 use Rattle.format.specs.Reading.{walk, Look, passed, halt, here, look, lookAt}
@@ -27,7 +28,7 @@ pub record Made (c : Call) (b : Book) (a : Answer) (b1 : Book) : Type 0 where
   pub log : List ℕ
   pub rest : List ℕ
   pub left : Parts
-  pub small : length log ≤ 16777216
+  pub small : length log ≤ usedLimit
   pub is : b ≡ bookOf (parts log rest)
   pub does : call logbook c (parts log rest) ≡ (a, left)
   pub now : b1 ≡ bookOf left
@@ -99,10 +100,10 @@ still l l1 es fs r w n e k =
     rw (← e, ← (x .means)) (walk-logbook l1 (x .names) (omega (arith, logbook-long k)) (w ∙ x .part .walks))
 
 -- the ending of a book whose walk is the same
-same-ending : (l l1 rest : List ℕ) → length l ≤ 16777216 → walk logbook 0 [] 0 l1 ≡ walk logbook 0 [] 0 l → length l1 ≡ length l → endingOf (bookOf (parts l1 rest)) ≡ endingOf (bookOf (parts l rest))
+same-ending : (l l1 rest : List ℕ) → length l ≤ usedLimit → walk logbook 0 [] 0 l1 ≡ walk logbook 0 [] 0 l → length l1 ≡ length l → endingOf (bookOf (parts l1 rest)) ≡ endingOf (bookOf (parts l rest))
 same-ending l l1 rest b w n = ending-walk l1 rest (omega arith) ∙ rw (w, n) (sym (ending-walk l rest b))
 
-module _ (l rest : List ℕ) (b : length l ≤ 16777216) where
+module _ (l rest : List ℕ) (b : length l ≤ usedLimit) where
   erase-books : (q t : ℕ) (u c : List ℕ) → t < length l → TypeByte l q t → Changed l (set l t 0) (listedAt q u c ∷ []) [] → Without (bookOf (parts l rest)) (bookOf (parts (set l t 0) rest)) q t
   unfolding bookOf
   erase-books q t u c h y x =
@@ -172,7 +173,7 @@ module _ (q m n : ℕ) (s s1 : Parts) where
       (λ h. not-wiped (rw h at d))
       (λ h. wiped-looked (look logbook q 0 [] 0 (s .log)) refl (rw h at d))
 
-module _ (l rest : List ℕ) (b : length l ≤ 16777216) (q k j m n : ℕ) (x : WipingAt l q k j) (c : n ≡ min m (nonzeros (x .body))) where
+module _ (l rest : List ℕ) (b : length l ≤ usedLimit) (q k j m n : ℕ) (x : WipingAt l q k j) (c : n ≡ min m (nonzeros (x .body))) where
   -- the log after i stores
   afterStores : ℕ → List ℕ
   afterStores i = splice q (k + j) (stores i k) l

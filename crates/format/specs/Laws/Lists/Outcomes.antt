@@ -7,6 +7,7 @@ use Prim.Native.Nat.{ℕ, zero, suc, _+_, _≤_}
 use native.Mathlib.Omega.{arith}
 use native.Mathlib.Nat.{add-zero, zero-add, add-assoc}
 use lib.ListN.{length, take, drop, length-append, length-drop, take-append-drop}
+use Rattle.format.specs.Figures.{usedLimit}
 use Rattle.format.specs.Uris.{headerName}
 use Rattle.format.specs.Register.{Names, impliedNames}
 use Rattle.format.specs.Records.{Refusal, refusal, Got, bad, got, logbook, item}
@@ -77,7 +78,7 @@ element-long (removal c l x) = record-long c
 element-long (header c l x) = record-long c
 
 -- ---- where a reading comes to
-module _ (l rest : List ℕ) (b : length l ≤ 16777216) where
+module _ (l rest : List ℕ) (b : length l ≤ usedLimit) where
   ending-whole : (h : Names) → 1 ≤ length l → walk logbook 0 [] 0 l ≡ whole h → endingOf (bookOf (parts l rest)) ≡ some (end (length l))
   unfolding endAt
   ending-whole h o e = ending-walk l rest b ∙ rw (e, past-start logbook (length l) o)
@@ -89,7 +90,7 @@ module _ (l rest : List ℕ) (b : length l ≤ 16777216) where
       let w : walk logbook 0 [] 0 l ≡ stop r = ap (walk logbook 0 [] 0) e ∙ walk-append logbook 0 [] h 0 lo (x ∷ hi) d ∙ walk-bad logbook h (0 + length lo) x r hi k in
       ending-walk l rest b ∙ rw w
 
-outcome-of : (l rest : List ℕ) → length l ≤ 16777216 → Stops [] 0 l → Outcome (bookOf (parts l rest))
+outcome-of : (l rest : List ℕ) → length l ≤ usedLimit → Stops [] 0 l → Outcome (bookOf (parts l rest))
 unfolding bookOf walk endAt
 outcome-of [] rest b k =
     noHeader (refusal 2 0) (entries-roll [] rest b ∙ roll-none logbook [] 0)

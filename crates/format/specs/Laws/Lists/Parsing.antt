@@ -13,6 +13,7 @@ use lib.Seq.{length-take-le, take-at, drop-at, drop-drop, take-all}
 use Rattle.format.specs.Laws.Cases.{and-left, by-test, from-zero-one}
 use Rattle.format.specs.Bytes.{same}
 use Rattle.format.specs.Laws.Bytes.{same-equal, equal-same}
+use Rattle.format.specs.Figures.{integerBytes, headerLength}
 use Rattle.format.specs.Integers.{value, readInteger}
 use Rattle.format.specs.Laws.Integers.{read-exact}
 use Rattle.format.specs.Uris.{typeName, headerName}
@@ -35,15 +36,15 @@ pub other-name : (u v : List ℕ) → same u v ≡ false → u ≡ v → ⊥
 other-name u v e q = from-zero-one (let d : true ≡ false = sym (equal-same u v q) ∙ e in cc)
 
 -- an integer read from b is written by its first bytes
-pub read-writing : (b : List ℕ) (v j : ℕ) → readInteger 4 b ≡ value v j → Writing (take j b) v
+pub read-writing : (b : List ℕ) (v j : ℕ) → readInteger integerBytes b ≡ value v j → Writing (take j b) v
 read-writing b v j e =
-    let q = read-exact 4 b v j e in
+    let q = read-exact integerBytes b v j e in
     size-of (take j b) v (rw (length-take-le j b (q .inside)) (rw append-nil at (q .exact [])))
 
 pub sizes-writing : (a b : List ℕ) → Sizes a b → Writing a (length b)
 sizes-writing a b m = size-of a (length b) (rw append-nil at (m []))
 
-unfoldable pub record-read : (a b : List ℕ) (v j : ℕ) → Sizes a b → readInteger 4 b ≡ value v j → RecordOf (a ++ b) v (drop j b)
+unfoldable pub record-read : (a b : List ℕ) (v j : ℕ) → Sizes a b → readInteger integerBytes b ≡ value v j → RecordOf (a ++ b) v (drop j b)
 record-read a b v j m e =
     record {
       size = a;
@@ -81,7 +82,7 @@ pub first-two : (n : ℕ) (a b ys : List ℕ) → n ≡ length (a ++ b) → take
 first-two n a b ys k = rw (← (append-assoc a b ys)) (take-at (a ++ b) ys n (sym k))
 
 form-element : (g h : Names) (p x n : ℕ) (xs : List ℕ) (i : Item) → Rising namedNumber 0 g → Form g p (x ∷ xs) i n h → Element (meaning g) p (x ∷ take n xs) (told i) (meaning h)
-form-element g h p x n xs i t (form [] b ys e m j z) = absurd (omega (arith, read-exact 4 [] (length b) 0 (m []) .some))
+form-element g h p x n xs i t (form [] b ys e m j z) = absurd (omega (arith, read-exact integerBytes [] (length b) 0 (m []) .some))
 form-element g h p x n xs i t (form (y ∷ a) b ys e m j z) =
     let k : suc n ≡ length ((y ∷ a) ++ b) = rw length-append (omega arith) in
     let v : x ∷ take n xs ≡ (y ∷ a) ++ b = ap (take (suc n)) e ∙ first-two (suc n) (y ∷ a) b ys k in
@@ -129,25 +130,25 @@ module _ (l : List ℕ) (h : Names) where
   parse-walk (suc fuel) = parse-step fuel (parse-walk fuel)
 
 -- ---- the header
-pub form-long : (l : List ℕ) → headerForm l ≡ true → length l ≡ 109
+pub form-long : (l : List ℕ) → headerForm l ≡ true → length l ≡ headerLength
 unfolding headerForm
-form-long l e = eqb-true (length l) 109 (and-left (eqb (length l) 109) _ e)
+form-long l e = eqb-true (length l) headerLength (and-left (eqb (length l) headerLength) _ e)
 
 pub header-part : (l : List ℕ) → headerForm l ≡ true → Part theLogbook [] 0 l (listedAt 0 headerName (drop 2 l) ∷ []) impliedNames
 unfolding headerAt told
 header-part [] e = absurd (omega (arith, form-long [] e))
 header-part (x ∷ w) e =
-    let n : length w ≡ 108 = omega (arith, form-long (x ∷ w) e) in
-    let k : take 108 w ≡ w = take-all 108 w (omega arith) in
+    let n : length w ≡ pred headerLength = omega (arith, form-long (x ∷ w) e) in
+    let k : take (pred headerLength) w ≡ w = take-all (pred headerLength) w (omega arith) in
     item-part theLogbook [] impliedNames 0 x w (live (entryOf 0 1 header (implied 111) 2 (drop 1 w)))
     (item-header theLogbook [] 0 x w refl ∙ rw (n, k, e))
 
 -- the walk of a log that has bytes
-pub head-got : (x : ℕ) (xs : List ℕ) (i : Item) (n : ℕ) (h : Names) → headerAt (x ∷ xs) ≡ got i n h → (headerForm (x ∷ take 108 xs) ≡ true) × (n ≡ 108) × (h ≡ impliedNames)
+pub head-got : (x : ℕ) (xs : List ℕ) (i : Item) (n : ℕ) (h : Names) → headerAt (x ∷ xs) ≡ got i n h → (headerForm (x ∷ take (pred headerLength) xs) ≡ true) × (n ≡ pred headerLength) × (h ≡ impliedNames)
 unfolding headerAt
 head-got x xs i n h e =
-    by-test (leb 109 (suc (length xs)))
-    (λ a. by-test (headerForm (x ∷ take 108 xs))
+    by-test (leb headerLength (suc (length xs)))
+    (λ a. by-test (headerForm (x ∷ take (pred headerLength) xs))
     (λ b. let c = rw (a, b) at e in (b, sym (got-bytes c), sym (got-names c)))
     (λ b. not-bad (rw (a, b) at e)))
     (λ a. not-bad (rw a at e))
@@ -159,11 +160,13 @@ walk-logbook (x ∷ xs) h o w = go (walk-first theLogbook [] h 0 x xs w)
     go : First theLogbook [] 0 x xs h → Logbook (x ∷ xs) (roll theLogbook 0 [] 0 (x ∷ xs)) (meaning h)
     go (first i n g1 e f) =
         let q = head-got x xs i n g1 (sym (item-header theLogbook [] 0 x xs refl) ∙ e) in
-        let v : List ℕ = x ∷ take 108 xs in
+        let v : List ℕ = x ∷ take (pred headerLength) xs in
+        let ys : List ℕ = drop (pred headerLength) xs in
         let t : Part theLogbook [] 0 v (listedAt 0 headerName (drop 2 v) ∷ []) impliedNames = header-part v (q .0) in
-        let c : v ++ drop 108 xs ≡ x ∷ xs = rw take-append-drop in
-        let k : roll theLogbook 0 [] 0 (x ∷ xs) ≡ listedAt 0 headerName (drop 2 v) ∷ roll theLogbook 0 impliedNames (length v) (drop 108 xs) = rw (← c) (part-roll theLogbook t (drop 108 xs) ∙ rw zero-add) in
-        let m0 : walk theLogbook 0 impliedNames (0 + length v) (drop 108 xs) ≡ whole h = sym (part-walk theLogbook t (drop 108 xs)) ∙ (rw c w) in
-        let m : walk theLogbook 0 impliedNames (length v) (drop 108 xs) ≡ whole h = rw zero-add at m0 in
-        let s = parse-walk (x ∷ xs) h (length (drop 108 xs)) impliedNames (length v) (drop 108 xs) (omega arith) (omega arith) (rw c at (drop-at v (drop 108 xs) (length v) refl)) (stands-implied (x ∷ xs)) m in
-        rw k (subst (λ (ys : List ℕ). Logbook ys (listedAt 0 headerName (drop 2 v) ∷ roll theLogbook 0 impliedNames (length v) (drop 108 xs)) (meaning h)) c (logbook v (shape-header v (q .0)) (rw implied-meaning at s)))
+        let c : v ++ ys ≡ x ∷ xs = rw take-append-drop in
+        let k : roll theLogbook 0 [] 0 (x ∷ xs) ≡ listedAt 0 headerName (drop 2 v) ∷ roll theLogbook 0 impliedNames (length v) ys = rw (← c) (part-roll theLogbook t ys ∙ rw zero-add) in
+        let m0 : walk theLogbook 0 impliedNames (0 + length v) ys ≡ whole h = sym (part-walk theLogbook t ys) ∙ (rw c w) in
+        let m : walk theLogbook 0 impliedNames (length v) ys ≡ whole h = rw zero-add at m0 in
+        let d : drop (length v) (x ∷ xs) ≡ ys = subst (λ (zs : List ℕ). drop (length v) zs ≡ ys) c (drop-at v ys (length v) refl) in
+        let s = parse-walk (x ∷ xs) h (length ys) impliedNames (length v) ys (omega arith) (omega arith) d (stands-implied (x ∷ xs)) m in
+        rw k (subst (λ (zs : List ℕ). Logbook zs (listedAt 0 headerName (drop 2 v) ∷ roll theLogbook 0 impliedNames (length v) ys) (meaning h)) c (logbook v (shape-header v (q .0)) (rw implied-meaning at s)))

@@ -7,6 +7,7 @@ use native.Mathlib.Omega.{arith}
 use native.Mathlib.Nat.{add-zero, zero-add, suc-add, add-suc}
 use borrow.Author.Tests.{eqb-true}
 use lib.ListN.{length, drop, set}
+use Rattle.format.specs.Figures.{usedLimit}
 use Rattle.format.specs.Laws.Cases.{by-test, from-zero-one}
 use Rattle.format.specs.Laws.Bytes.{same-equal}
 use Rattle.format.specs.Uris.{typeName, headerName}
@@ -172,7 +173,7 @@ find zero g p (x ∷ l) xs ys e r = go (λ n h zs q. find n h (suc p) l zs ys e 
     go ih (got i n h) q = found-item g h p x n l i xs ys e (ih n h) q (sym (roll-got logbook g h p x n l i q) ∙ r)
 
 -- ---- an erase answers for each entry of the list
-pub call-sound : (c : Call) (l rest : List ℕ) → length l ≤ 16777216 → callOn logbook c (bookOf (parts l rest)) ≡ called (call logbook c (parts l rest))
+pub call-sound : (c : Call) (l rest : List ℕ) → length l ≤ usedLimit → callOn logbook c (bookOf (parts l rest)) ≡ called (call logbook c (parts l rest))
 unfolding callOn
 call-sound c l rest b = rw (sound-book logbook l rest b, parted-book logbook l rest)
 
@@ -188,7 +189,7 @@ erase-found q (x ∷ l) rest u c f =
     let y : look logbook q 0 [] 0 (x ∷ l) ≡ here (live (f .entry)) = rw z at (f .looks) in
     rw (look-start logbook q (x ∷ l) (past-start logbook (suc (length l)) (omega arith)), y)
 
-answer-of : (l rest : List ℕ) → length l ≤ 16777216 → (q : ℕ) (u c : List ℕ) (f : Found 0 [] 0 l (listedAt q u c)) → Sort (f .entry) → EraseAnswer (bookOf (parts l rest)) q u
+answer-of : (l rest : List ℕ) → length l ≤ usedLimit → (q : ℕ) (u c : List ℕ) (f : Found 0 [] 0 l (listedAt q u c)) → Sort (f .entry) → EraseAnswer (bookOf (parts l rest)) q u
 unfolding eraseEntry
 answer-of l rest b q u c f (plainly k x y) =
     goes (f .entry .typePlace) (bookOf (parts (set l (f .entry .typePlace) 0) rest)) (λ e. x (sym (f .named) ∙ e)) (λ e. y (sym (f .named) ∙ e))
@@ -196,7 +197,7 @@ answer-of l rest b q u c f (plainly k x y) =
 answer-of l rest b q u c f (asHeader k x) = headerStays (f .named ∙ x) (call-sound (erase q) l rest b ∙ rw (erase-found q l rest u c f, k))
 answer-of l rest b q u c f (asType n a v k x) = typeStays (f .named ∙ x) (call-sound (erase q) l rest b ∙ rw (erase-found q l rest u c f, k))
 
-answers-at : (l rest : List ℕ) → length l ≤ 16777216 → (q : ℕ) (u c : List ℕ) (xs ys : List Listed) → entriesOf (bookOf (parts l rest)) ≡ xs ++ (listedAt q u c ∷ ys) → EraseAnswer (bookOf (parts l rest)) q u
+answers-at : (l rest : List ℕ) → length l ≤ usedLimit → (q : ℕ) (u c : List ℕ) (xs ys : List Listed) → entriesOf (bookOf (parts l rest)) ≡ xs ++ (listedAt q u c ∷ ys) → EraseAnswer (bookOf (parts l rest)) q u
 answers-at l rest b q u c xs ys e =
     let f : Found 0 [] 0 l (listedAt q u c) = find 0 [] 0 l xs ys (listedAt q u c) (sym (entries-roll l rest b) ∙ e) in
     answer-of l rest b q u c f (f .sort)

@@ -8,6 +8,7 @@ use native.Mathlib.Omega.{arith}
 use borrow.Author.Tests.{ltb-true, eqb-true, eq-eqb, ne-eqb}
 use lib.ListN.{length, length-map}
 use lib.Dec.{eqb}
+use Rattle.format.specs.Figures.{rowLimit}
 use Rattle.format.specs.Laws.Cases.{by-test, by-equality, from-zero-one}
 use Rattle.format.specs.Uris.{typeName, headerName}
 use Rattle.format.specs.Register.{Rising, find, hasRoom, Named, implied, written, Names, namedNumber, namedUri, impliedNames, uriOf}
@@ -112,4 +113,5 @@ of-room g n e = go (find namedNumber n g) refl
   where
     go : (v : Option Named) → find namedNumber n g ≡ v → Room (meaning g) n
     go (some r) q = again (namedUri r) (rw q)
-    go none q = further (map namedNumber g) (rw (length-map g namedNumber) (ltb-true (length g) 32 (sym (room-new namedNumber n g q) ∙ e))) (numbers-all g)
+    go none q =
+        further (map namedNumber g) (rw (length-map g namedNumber) (ltb-true (length g) rowLimit (sym (room-new namedNumber n g q) ∙ e))) (numbers-all g)

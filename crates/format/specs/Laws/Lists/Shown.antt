@@ -12,6 +12,7 @@ use lib.Seq.{length-take-le, drop-at}
 use Rattle.format.specs.Laws.Cases.{by-test, from-zero-one, true-false}
 use Rattle.format.specs.Bytes.{partOf}
 use Rattle.format.specs.Laws.Bytes.{part-more}
+use Rattle.format.specs.Figures.{integerBytes, headerLength}
 use Rattle.format.specs.Integers.{value, readInteger}
 use Rattle.format.specs.Laws.Integers.{read-exact}
 use Rattle.format.specs.Uris.{typeName, headerName}
@@ -55,11 +56,11 @@ entry-at l p q k y w d r e t c f g =
 
 -- ---- a record that is judged
 module _ (l : List ℕ) (p q : ℕ) (a b : List ℕ) (here : partOf p q l ≡ a ++ b) (ends : q ≡ p + length a + length b) (m : Sizes a b) (g : Names) where
-  live-at : (y : Named) (k : Kind) (n j : ℕ) → readInteger 4 b ≡ value n j → find namedNumber n g ≡ some y → ItemAt l p q (live (entryOf p (p + length a) k y (p + length a + j) (drop j b)))
+  live-at : (y : Named) (k : Kind) (n j : ℕ) → readInteger integerBytes b ≡ value n j → find namedNumber n g ≡ some y → ItemAt l p q (live (entryOf p (p + length a) k y (p + length a + j) (drop j b)))
   unfolding record-read
   live-at y k n j r s =
       let z : rowFor y .number ≡ n = rows-number y ∙ find-number namedNumber n g y s in
-      let i : length (take j b) ≡ j = length-take-le j b (read-exact 4 b n j r .inside) in
+      let i : length (take j b) ≡ j = length-take-le j b (read-exact integerBytes b n j r .inside) in
       anEntry _ (entry-at l p q k y (a ++ b) (drop j b) (record-read a b (rowFor y .number) j m (r ∙ ap (λ (x : ℕ). value x j) (sym z))) here (p + length a) (p + length a + j) refl (rw i))
 
   judged-at : (w : List ℕ) (n o : ℕ) (h : Names) (i : Item) → Judgement p (length a) w b n g i o h → ItemAt l p q i
@@ -73,7 +74,7 @@ module _ (l : List ℕ) (p q : ℕ) (a b : List ℕ) (here : partOf p q l ≡ a 
 head-record : (h : List ℕ) → HeaderShape h → RecordOf h 111 (drop 2 h)
 unfolding High NoEmptyLead leadsValue
 head-record h s =
-    let n : length (drop 2 h) ≡ 107 = length-drop 2 h ∙ rw (header-long h s) refl in
+    let n : length (drop 2 h) ≡ headerLength - 2 = length-drop 2 h ∙ rw (header-long h s) refl in
     record {
       size = 0x6C ∷ [];
       type = 0x6F ∷ [];
@@ -89,7 +90,7 @@ module _ (l : List ℕ) (p : ℕ) (x : ℕ) (xs : List ℕ) (here : drop p l ≡
 
   form-at : (g h : Names) (n : ℕ) (i : Item) → Form g p (x ∷ xs) i n h → ItemAt l p (p + suc n) i
   form-at g h n i (form a b ys e m j z) =
-      let s : 1 ≤ length a = read-exact 4 (a ++ []) (length b) (length a) (m []) .some in
+      let s : 1 ≤ length a = read-exact integerBytes (a ++ []) (length b) (length a) (m []) .some in
       let k : suc n ≡ length (a ++ b) = rw length-append (omega arith) in
       let w : partOf p (p + suc n) l ≡ a ++ b = part-here (suc n) ∙ ap (take (suc n)) e ∙ first-two (suc n) a b ys k in
       judged-at l p (p + suc n) a b w (omega arith) m g (a ++ b) (pred (length a + length b)) n h i (judgement p (length a) (a ++ b) b (pred (length a + length b)) g j)
@@ -98,11 +99,11 @@ module _ (l : List ℕ) (p : ℕ) (x : ℕ) (xs : List ℕ) (here : drop p l ≡
   unfolding head-record
   head-at h n i z e =
       let f = head-got x xs i n h e in
-      let w : List ℕ = x ∷ take 108 xs in
+      let w : List ℕ = x ∷ take (pred headerLength) xs in
       let s : HeaderShape w = shape-header w (f .0) in
-      let b : partOf 0 109 l ≡ w = rw z at (part-here 109) in
+      let b : partOf 0 headerLength l ≡ w = rw z at (part-here headerLength) in
       rw (head-item (x ∷ xs) i n h e .0, f .1, z)
-      (anEntry (headEntry (x ∷ xs)) (entry-at l 0 109 header (implied 111) w (drop 2 w) (head-record w s) b 1 2 refl refl))
+      (anEntry (headEntry (x ∷ xs)) (entry-at l 0 headerLength header (implied 111) w (drop 2 w) (head-record w s) b 1 2 refl refl))
 
 item-at : (l : List ℕ) (g h : Names) (p x n : ℕ) (xs : List ℕ) (i : Item) → drop p l ≡ x ∷ xs → item logbook g p x xs ≡ got i n h → ItemAt l p (p + suc n) i
 unfolding element

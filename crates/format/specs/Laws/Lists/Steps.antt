@@ -8,6 +8,7 @@ use native.Mathlib.Omega.{arith}
 use native.Mathlib.Nat.{zero-add, add-zero}
 use lib.ListN.{length, take, drop, replicate, length-append, length-drop, replicate-append-replicate, take-append-drop}
 use lib.Seq.{length-take-le, take-append-seam}
+use Rattle.format.specs.Figures.{usedLimit}
 use Rattle.format.specs.Laws.Cases.{by-test, from-zero-one}
 use Rattle.format.specs.Register.{Names}
 use Rattle.format.specs.Records.{Refusal, refusal, Item, Got, bad, got, logbook, atHeader, item}
@@ -26,7 +27,7 @@ use Rattle.format.specs.Laws.Lists.Parsing.{walk-logbook}
 use Rattle.format.specs.Laws.Lists.Walking.{parse-logbook, logbook-long}
 
 -- ---- the steps list what the walk rolls out
-listed-step : (n : ℕ) (l rest : List ℕ) (r r1 : Reading) (x : Shown) → length l ≤ 16777216 → step logbook l r ≡ stepped x r1
+listed-step : (n : ℕ) (l rest : List ℕ) (r r1 : Reading) (x : Shown) → length l ≤ usedLimit → step logbook l r ≡ stepped x r1
     → replies logbook (wld l rest r) (replicate (suc n) steps) ≡ showed x r1 ∷ replies logbook (wld l rest r1) (replicate n steps)
 unfolding replies
 listed-step n l rest r r1 x b e = rw (step-reply logbook l rest r r1 x b e, step-next logbook l rest r r1 x b e)
@@ -52,17 +53,17 @@ Told rs g p hi = (listed rs ≡ roll logbook 0 g p hi) × (stopped rs ≡ some (
 
 abbrev Lists : ℕ → Type 0
 Lists n =
-    (lo hi rest : List ℕ) (g : Names) (r : Reading) → Sees r (length lo) g → length lo + length hi ≤ 16777216 → Fits logbook (stands-none []) lo g → length hi < n
+    (lo hi rest : List ℕ) (g : Names) (r : Reading) → Sees r (length lo) g → length lo + length hi ≤ usedLimit → Fits logbook (stands-none []) lo g → length hi < n
     → Told (replies logbook (wld (lo ++ hi) rest r) (replicate n steps)) g (length lo) hi
 
-lists-bad : (n : ℕ) (lo rest xs : List ℕ) (g : Names) (r : Reading) (x : ℕ) (y : Refusal) → Sees r (length lo) g → length lo + suc (length xs) ≤ 16777216 → Fits logbook (stands-none []) lo g
+lists-bad : (n : ℕ) (lo rest xs : List ℕ) (g : Names) (r : Reading) (x : ℕ) (y : Refusal) → Sees r (length lo) g → length lo + suc (length xs) ≤ usedLimit → Fits logbook (stands-none []) lo g
     → item logbook g (length lo) x xs ≡ bad y → Told (replies logbook (wld (lo ++ (x ∷ xs)) rest r) (replicate (suc n) steps)) g (length lo) (x ∷ xs)
 unfolding stepAt moved listed stopped endAt
 lists-bad n lo rest xs g r x y s b f q =
     rw (listed-step n (lo ++ (x ∷ xs)) rest r r (refused y) (rw length-append b) (step-here logbook (stands-none []) r (length lo) g lo (x ∷ xs) s f refl ∙ rw (s .place, q)))
     (sym (roll-bad logbook g (length lo) x y xs q), rw (walk-bad logbook g (length lo) x y xs q))
 
-lists-got : (n : ℕ) → Lists n → (lo rest xs : List ℕ) (g g1 : Names) (r : Reading) (x m : ℕ) (i : Item) → Sees r (length lo) g → length lo + suc (length xs) ≤ 16777216 → Fits logbook (stands-none []) lo g → length xs < n
+lists-got : (n : ℕ) → Lists n → (lo rest xs : List ℕ) (g g1 : Names) (r : Reading) (x m : ℕ) (i : Item) → Sees r (length lo) g → length lo + suc (length xs) ≤ usedLimit → Fits logbook (stands-none []) lo g → length xs < n
     → item logbook g (length lo) x xs ≡ got i m g1 → Told (replies logbook (wld (lo ++ (x ∷ xs)) rest r) (replicate (suc n) steps)) g (length lo) (x ∷ xs)
 unfolding stepAt moved listed stopped
 lists-got n ih lo rest xs g g1 r x m i s b f h q =
@@ -82,7 +83,7 @@ lists-got n ih lo rest xs g g1 r x m i s b f h q =
     rw (listed-step n (lo ++ (x ∷ xs)) rest r r1 (shown i (numbered i (r .count))) (rw length-append b) (step-here logbook (stands-none []) r p g lo (x ∷ xs) s f refl ∙ rw (s .place, q)))
     (rw (z, y .0), y .1 ∙ rw (u, d))
 
-lists-item : (n : ℕ) → Lists n → (lo rest xs : List ℕ) (g : Names) (r : Reading) (x : ℕ) → Sees r (length lo) g → length lo + suc (length xs) ≤ 16777216 → Fits logbook (stands-none []) lo g → length xs < n
+lists-item : (n : ℕ) → Lists n → (lo rest xs : List ℕ) (g : Names) (r : Reading) (x : ℕ) → Sees r (length lo) g → length lo + suc (length xs) ≤ usedLimit → Fits logbook (stands-none []) lo g → length xs < n
     → (v : Got) → item logbook g (length lo) x xs ≡ v → Told (replies logbook (wld (lo ++ (x ∷ xs)) rest r) (replicate (suc n) steps)) g (length lo) (x ∷ xs)
 lists-item n ih lo rest xs g r x s b f h (bad y) q = lists-bad n lo rest xs g r x y s b f q
 lists-item n ih lo rest xs g r x s b f h (got i m g1) q = lists-got n ih lo rest xs g g1 r x m i s b f h q
@@ -101,15 +102,15 @@ lists zero = λ lo hi rest g r s b f h. absurd (omega arith)
 lists (suc n) = lists-next n (lists n)
 
 -- any number of steps above the used length lists the walk's entries
-steps-roll : (n : ℕ) (l rest : List ℕ) → length l ≤ 16777216 → length l < n → Told (replies logbook (wld l rest fresh) (replicate n steps)) [] 0 l
+steps-roll : (n : ℕ) (l rest : List ℕ) → length l ≤ usedLimit → length l < n → Told (replies logbook (wld l rest fresh) (replicate n steps)) [] 0 l
 unfolding walk
 steps-roll n l rest b h = lists n [] l rest [] fresh fresh-sees (omega arith) refl h
 
-pub entries-roll : (l rest : List ℕ) → length l ≤ 16777216 → entriesOf (bookOf (parts l rest)) ≡ roll logbook 0 [] 0 l
+pub entries-roll : (l rest : List ℕ) → length l ≤ usedLimit → entriesOf (bookOf (parts l rest)) ≡ roll logbook 0 [] 0 l
 unfolding entriesOf bookOf
 entries-roll l rest b = steps-roll (suc (length l)) l rest b (omega arith) .0
 
-pub ending-walk : (l rest : List ℕ) → length l ≤ 16777216 → endingOf (bookOf (parts l rest)) ≡ some (endAt (walk logbook 0 [] 0 l) (length l))
+pub ending-walk : (l rest : List ℕ) → length l ≤ usedLimit → endingOf (bookOf (parts l rest)) ≡ some (endAt (walk logbook 0 [] 0 l) (length l))
 unfolding endingOf bookOf
 ending-walk l rest b = rw zero-add at (steps-roll (suc (length l)) l rest b (omega arith) .1)
 
@@ -127,7 +128,7 @@ listed-whole (showed (end p) r ∷ rs) ss h = refl
 listed-whole (showed (refused x) r ∷ rs) ss h = absurd h
 listed-whole (showed (shown i n) r ∷ rs) ss h = rw (listed-whole rs ss h)
 
-reads-roll : (l rest : List ℕ) → length l ≤ 16777216 → (r : Reads logbook (bookOf (parts l rest))) → listed (r .list) ≡ roll logbook 0 [] 0 l
+reads-roll : (l rest : List ℕ) → length l ≤ usedLimit → (r : Reads logbook (bookOf (parts l rest))) → listed (r .list) ≡ roll logbook 0 [] 0 l
 reads-roll l rest b r =
     let n : ℕ = length (r .list) in
     let w : World = wld l rest fresh in
@@ -137,7 +138,7 @@ reads-roll l rest b r =
     sym (listed-whole (r .list) s (r .isToEnd)) ∙ sym (ap listed a) ∙ steps-roll (n + suc (length l)) l rest b (omega arith) .0
 
 -- what holds of every buffer cut at its used length holds of every sound book
-pub on-sound : (P : Book → Type 0) → ((l rest : List ℕ) → length l ≤ 16777216 → P (bookOf (parts l rest))) → (b : Book) → sound b ≡ true → P b
+pub on-sound : (P : Book → Type 0) → ((l rest : List ℕ) → length l ≤ usedLimit → P (bookOf (parts l rest))) → (b : Book) → sound b ≡ true → P b
 unfolding parted
 on-sound P h b q = let p = sound-parts logbook b q in subst P (sym (p .0)) (h (take (b .used) (b .buffer)) (drop (b .used) (b .buffer)) (p .1))
 
@@ -148,7 +149,7 @@ used-of l rest = take-append-seam l rest
 reads-sound : (b : Book) → Reads logbook b → sound b ≡ true
 reads-sound b r = by-test (sound b) (λ q. q) (λ q. absurd (unsound logbook (stands-none []) fresh-sees b (r .list) q (r .isToEnd) (r .read)))
 
-reads-walk : (l rest : List ℕ) → length l ≤ 16777216 → Reads logbook (bookOf (parts l rest)) → Good logbook (stands-none []) [] 0 l
+reads-walk : (l rest : List ℕ) → length l ≤ usedLimit → Reads logbook (bookOf (parts l rest)) → Good logbook (stands-none []) [] 0 l
 unfolding walk
 reads-walk l rest b r = reads-good logbook (stands-none []) (r .list) [] l rest [] fresh fresh-sees (omega arith) refl (r .isToEnd) (r .read)
 
@@ -168,7 +169,7 @@ module _ (b : Book) where
   pub reading-sound : (r : Reads logbook b) → (e : Register) × Logbook (usedBytes b) (listed (r .list)) e
   reading-sound r = on-sound (λ (b : Book). (r : Reads logbook b) → (e : Register) × Logbook (usedBytes b) (listed (r .list)) e) go b (reads-sound b r) r
     where
-      go : (l rest : List ℕ) → length l ≤ 16777216 → (r : Reads logbook (bookOf (parts l rest))) → (e : Register) × Logbook (usedBytes (bookOf (parts l rest))) (listed (r .list)) e
+      go : (l rest : List ℕ) → length l ≤ usedLimit → (r : Reads logbook (bookOf (parts l rest))) → (e : Register) × Logbook (usedBytes (bookOf (parts l rest))) (listed (r .list)) e
       go l rest k r =
           let q : Good logbook (stands-none []) [] 0 l = reads-walk l rest k r in
           (meaning (q .names), rw (used-of l rest, reads-roll l rest k r) (walk-logbook l (q .names) (omega (arith, past-of (0 + length l) (q .ends))) (q .walks)))
@@ -177,7 +178,7 @@ module _ (b : Book) where
   pub reading-complete : sound b ≡ true → (es : List Listed) (e : Register) → Logbook (usedBytes b) es e → (r : Reads logbook b) × (listed (r .list) ≡ es)
   reading-complete s es e k = on-sound (λ (b : Book). Logbook (usedBytes b) es e → (r : Reads logbook b) × (listed (r .list) ≡ es)) go b s k
     where
-      go : (l rest : List ℕ) → length l ≤ 16777216 → Logbook (usedBytes (bookOf (parts l rest))) es e → (r : Reads logbook (bookOf (parts l rest))) × (listed (r .list) ≡ es)
+      go : (l rest : List ℕ) → length l ≤ usedLimit → Logbook (usedBytes (bookOf (parts l rest))) es e → (r : Reads logbook (bookOf (parts l rest))) × (listed (r .list) ≡ es)
       go l rest n k0 =
           let k : Logbook l es e = rw (used-of l rest) at k0 in
           let x = parse-logbook k in

@@ -10,6 +10,7 @@ use lib.ListN.{length, drop, length-append}
 use lib.Seq.{drop-at}
 use Rattle.format.specs.Bytes.{same}
 use Rattle.format.specs.Laws.Bytes.{same-self, other-same}
+use Rattle.format.specs.Figures.{integerBytes, headerLength}
 use Rattle.format.specs.Integers.{value, readInteger}
 use Rattle.format.specs.Uris.{typeName, headerName}
 use Rattle.format.specs.Header.{headerForm}
@@ -132,7 +133,7 @@ module _ (g : Names) (t : Rising namedNumber 0 g) (p : ℕ) (o : 1 ≤ p) (w d :
       let i : same (namedUri (z .row)) headerName ≡ false = rw (z .named) type-not-header in
       let j : same (namedUri (z .row)) typeName ≡ true = rw (z .named) (same-self typeName) in
       let b : drop (length m) d ≡ u = rw e (drop-at m u (length m) refl) in
-      let a : readInteger 4 d ≡ value (suc k) (length m) = rw e (writing-reads m (suc k) v u) in (
+      let a : readInteger integerBytes d ≡ value (suc k) (length m) = rw e (writing-reads m (suc k) v u) in (
         q + length m,
         rw (z .named) at
             (parsed-live n (z .row) (assigned (suc k) (q + length m) u g) (entryOf p (p + length (c .size)) (assignment (suc k) (q + length m) u) (z .row) q d) (rising-assigned g k (q + length m) u t) c (z .found)
@@ -176,7 +177,7 @@ parse-logbook (logbook h {x = x} {es = es} {r = r} f s) =
     let b : Parsed impliedNames (0 + length h) x es r = rw zero-add (parse-sequence s impliedNames (sym implied-meaning) rising-implied (omega (arith, header-long h f))) in
     parsed-join a b
 
-pub logbook-long : {l : List ℕ} {es : List Listed} {r : Register} → Logbook l es r → 109 ≤ length l
+pub logbook-long : {l : List ℕ} {es : List Listed} {r : Register} → Logbook l es r → headerLength ≤ length l
 logbook-long (logbook h {x = x} f s) = rw length-append (omega (arith, header-long h f))
 
 -- a logbook has one list and one register

@@ -10,6 +10,7 @@ use borrow.Author.Tests.{le-leb, leb-true}
 use lib.ListN.{length, take, drop, replicate, length-append, take-append-drop}
 use lib.Dec.{leb}
 use lib.Seq.{take-append-seam, drop-append-seam, length-take-le}
+use Rattle.format.specs.Figures.{usedLimit}
 use Rattle.format.specs.Laws.Cases.{by-test, from-zero-one, and-left, and-right}
 use Rattle.format.specs.Register.{Names}
 use Rattle.format.specs.Records.{refusal, Item, Origin, atHeader}
@@ -50,9 +51,9 @@ module _ (o : Origin) where
   runs-all w (e ∷ es) = cons refl refl (runs-all (next o w e) es)
 
   -- ---- buffer and used length
-  pub sound-book : (l rest : List ℕ) → length l ≤ 16777216 → sound (bookOf (parts l rest)) ≡ true
+  pub sound-book : (l rest : List ℕ) → length l ≤ usedLimit → sound (bookOf (parts l rest)) ≡ true
   unfolding sound bookOf
-  sound-book l rest h = rw (le-leb (length l) (length (l ++ rest)) (rw length-append (omega arith)), le-leb (length l) 16777216 h)
+  sound-book l rest h = rw (le-leb (length l) (length (l ++ rest)) (rw length-append (omega arith)), le-leb (length l) usedLimit h)
 
   pub parted-book : (l rest : List ℕ) → parted (bookOf (parts l rest)) ≡ parts l rest
   unfolding parted bookOf
@@ -61,35 +62,37 @@ module _ (o : Origin) where
   pub parted-log : (l rest : List ℕ) → parted (bookOf (parts l rest)) .log ≡ l
   parted-log l rest = ap (λ (s : Parts). s .log) (parted-book l rest)
 
-  pub sound-parts : (b : Book) → sound b ≡ true → (b ≡ bookOf (parted b)) × (length (take (b .used) (b .buffer)) ≤ 16777216)
+  pub sound-parts : (b : Book) → sound b ≡ true → (b ≡ bookOf (parted b)) × (length (take (b .used) (b .buffer)) ≤ usedLimit)
   unfolding sound bookOf parted
   sound-parts b e =
-      let a : b .used ≤ length (b .buffer) = leb-true _ _ (and-left (leb (b .used) (length (b .buffer))) (leb (b .used) 16777216) e) in
+      let a : b .used ≤ length (b .buffer) = leb-true _ _ (and-left (leb (b .used) (length (b .buffer))) (leb (b .used) usedLimit) e) in
       let c : length (take (b .used) (b .buffer)) ≡ b .used = length-take-le (b .used) (b .buffer) a in
-      (rw (take-append-drop, c), rw c (leb-true _ _ (and-right (leb (b .used) (length (b .buffer))) (leb (b .used) 16777216) e)))
+      (rw (take-append-drop, c), rw c (leb-true _ _ (and-right (leb (b .used) (length (b .buffer))) (leb (b .used) usedLimit) e)))
 
-  call-reply : (l rest l1 rest1 : List ℕ) (c : Call) (a : Answer) (r : Reading) → length l ≤ 16777216 → call o c (parts l rest) ≡ (a, parts l1 rest1) → reply o (wld l rest r) (calls c) ≡ said a
+  call-reply : (l rest l1 rest1 : List ℕ) (c : Call) (a : Answer) (r : Reading) → length l ≤ usedLimit → call o c (parts l rest) ≡ (a, parts l1 rest1) → reply o (wld l rest r) (calls c) ≡ said a
   unfolding reply callOn
   call-reply l rest l1 rest1 c a r b e = rw (sound-book l rest b, parted-book l rest, e)
 
-  call-next : (l rest l1 rest1 : List ℕ) (c : Call) (a : Answer) (r : Reading) → length l ≤ 16777216 → call o c (parts l rest) ≡ (a, parts l1 rest1) → next o (wld l rest r) (calls c) ≡ wld l1 rest1 r
+  call-next : (l rest l1 rest1 : List ℕ) (c : Call) (a : Answer) (r : Reading) → length l ≤ usedLimit → call o c (parts l rest) ≡ (a, parts l1 rest1) → next o (wld l rest r) (calls c) ≡ wld l1 rest1 r
   unfolding next callOn
   call-next l rest l1 rest1 c a r b e = rw (sound-book l rest b, parted-book l rest, e)
 
-  pub step-reply : (l rest : List ℕ) (r r1 : Reading) (x : Shown) → length l ≤ 16777216 → step o l r ≡ stepped x r1 → reply o (wld l rest r) steps ≡ showed x r1
+  pub step-reply : (l rest : List ℕ) (r r1 : Reading) (x : Shown) → length l ≤ usedLimit
+      → step o l r ≡ stepped x r1 → reply o (wld l rest r) steps ≡ showed x r1
   unfolding reply stepOn
   step-reply l rest r r1 x b e = rw (sound-book l rest b, parted-log l rest, e)
 
-  pub step-next : (l rest : List ℕ) (r r1 : Reading) (x : Shown) → length l ≤ 16777216 → step o l r ≡ stepped x r1 → next o (wld l rest r) steps ≡ wld l rest r1
+  pub step-next : (l rest : List ℕ) (r r1 : Reading) (x : Shown) → length l ≤ usedLimit
+      → step o l r ≡ stepped x r1 → next o (wld l rest r) steps ≡ wld l rest r1
   unfolding next stepOn
   step-next l rest r r1 x b e = rw (sound-book l rest b, parted-log l rest, e)
 
   run-call : (l rest : List ℕ) {l1 rest1 : List ℕ} {c : Call} {a : Answer} {r : Reading} {w2 : World} {es : List Event} {rs : List Reply}
-      → length l ≤ 16777216 → call o c (parts l rest) ≡ (a, parts l1 rest1) → Runs (wld l1 rest1 r) es rs w2 → Runs (wld l rest r) (calls c ∷ es) (said a ∷ rs) w2
+      → length l ≤ usedLimit → call o c (parts l rest) ≡ (a, parts l1 rest1) → Runs (wld l1 rest1 r) es rs w2 → Runs (wld l rest r) (calls c ∷ es) (said a ∷ rs) w2
   run-call l rest {l1} {rest1} {c} {a} {r} b e q = cons (call-reply l rest l1 rest1 c a r b e) (call-next l rest l1 rest1 c a r b e) q
 
   run-step : (l rest : List ℕ) {r r1 : Reading} {x : Shown} {w2 : World} {es : List Event} {rs : List Reply}
-      → length l ≤ 16777216 → step o l r ≡ stepped x r1 → Runs (wld l rest r1) es rs w2 → Runs (wld l rest r) (steps ∷ es) (showed x r1 ∷ rs) w2
+      → length l ≤ usedLimit → step o l r ≡ stepped x r1 → Runs (wld l rest r1) es rs w2 → Runs (wld l rest r) (steps ∷ es) (showed x r1 ∷ rs) w2
   run-step l rest {r} {r1} {x} b e q = cons (step-reply l rest r r1 x b e) (step-next l rest r r1 x b e) q
 
 module _ (o : Origin) (begin : Stands [] (o .names)) where
@@ -105,7 +108,7 @@ module _ (o : Origin) (begin : Stands [] (o .names)) where
       let e : p + length (w ++ hi) ≡ p + length w + length hi = rw length-append (omega arith) in
       record { names = q .names; walks = pc hi ∙ q .walks; ends = rw e (q .ends); small = rw e (q .small) }
 
-  fits-in : (g : Names) (lo hi l : List ℕ) → Good o begin g (length lo) hi → length l ≡ length lo → length (l ++ hi) ≤ 16777216
+  fits-in : (g : Names) (lo hi l : List ℕ) → Good o begin g (length lo) hi → length l ≡ length lo → length (l ++ hi) ≤ usedLimit
   fits-in g lo hi l q k = rw (length-append, k) (q .small)
 
   -- ---- the series from a state in the middle: lo is passed, hi is not, S is the series sorted from here, z its last book
@@ -147,7 +150,7 @@ module _ (o : Origin) (begin : Stands [] (o .names)) where
       → Main (add late (calls c) (said (e .answer)) S) z lo hi rest g r
   unfolding add
   main-late {lo = lo} {g = g} e m =
-      let b : length (lo ++ m .high) ≤ 16777216 = rw (length-append, ← (e .long)) (m .good .small) in
+      let b : length (lo ++ m .high) ≤ usedLimit = rw (length-append, ← (e .long)) (m .good .small) in
       record {
         high = m .high;
         left = m .left;
@@ -193,7 +196,7 @@ module _ (o : Origin) (begin : Stands [] (o .names)) where
     pub to-end : ToEnd list
     pub runs : (l rest : List ℕ) → Fits o begin l g → length l ≡ p → Runs o (wld (l ++ hi) rest r) (replicate (length list) steps) list (wld (l ++ hi) rest last)
 
-  rest-end : (r : Reading) (p : ℕ) (g : Names) → Sees r p g → atHeader o p ≡ false → p ≤ 16777216 → Rest r p g []
+  rest-end : (r : Reading) (p : ℕ) (g : Names) → Sees r p g → atHeader o p ≡ false → p ≤ usedLimit → Rest r p g []
   unfolding ToEnd
   rest-end r p g s h b =
       record {
@@ -206,7 +209,7 @@ module _ (o : Origin) (begin : Stands [] (o .names)) where
       step-at : (l : List ℕ) → Fits o begin l g → length l ≡ p → step o l r ≡ stepped (end p) r
       step-at l f k = rw (← k) (step-end o begin r g l (rw (← k) at s) f (rw (← k) at h))
 
-  rest-more : (r r1 : Reading) (p : ℕ) (g g1 : Names) (w hi1 : List ℕ) (i : Item) (n : ℕ) → p + length (w ++ hi1) ≤ 16777216 → Piece o g p w g1
+  rest-more : (r r1 : Reading) (p : ℕ) (g g1 : Names) (w hi1 : List ℕ) (i : Item) (n : ℕ) → p + length (w ++ hi1) ≤ usedLimit → Piece o g p w g1
       → ((lo hi2 : List ℕ) → Fits o begin lo g → length lo ≡ p → step o (lo ++ (w ++ hi2)) r ≡ stepped (shown i n) r1)
       → Rest r1 (p + length w) g1 hi1 → Rest r p g (w ++ hi1)
   unfolding ToEnd
@@ -258,7 +261,7 @@ module _ (o : Origin) (begin : Stands [] (o .names)) where
   all-late w [] = refl
   all-late w (e ∷ es) = rw (all-late (next o w e) es)
 
-  main-end : (es : List Event) (lo rest : List ℕ) (g : Names) (r : Reading) → Sees r (length lo) g → atHeader o (length lo) ≡ false → length lo ≤ 16777216 → Fits o begin lo g
+  main-end : (es : List Event) (lo rest : List ℕ) (g : Names) (r : Reading) → Sees r (length lo) g → atHeader o (length lo) ≡ false → length lo ≤ usedLimit → Fits o begin lo g
       → Main (add during steps (showed (end (length lo)) r) (sorted o true (wld (lo ++ []) rest r) es)) (final o (wld (lo ++ []) rest r) es .book) lo [] rest g r
   unfolding add ToEnd walk
   main-end es lo rest g r s h b f =
@@ -312,7 +315,7 @@ module _ (o : Origin) (begin : Stands [] (o .names)) where
   on-late : (x : Call) (es : List Event) → Holds es → (lo hi rest : List ℕ) (g : Names) (r : Reading) → Sees r (length lo) g → Good o begin g (length lo) hi → markCall x (length lo) ≡ late → LateOf o begin x lo g
       → From (calls x ∷ es) lo hi rest g r
   on-late x es ih lo hi rest g r s q k m =
-      let b : length (lo ++ hi) ≤ 16777216 = fits-in g lo hi lo q refl in
+      let b : length (lo ++ hi) ≤ usedLimit = fits-in g lo hi lo q refl in
       let n : next o (wld (lo ++ hi) rest r) (calls x) ≡ wld (m .low ++ hi) rest r = call-next o (lo ++ hi) rest (m .low ++ hi) rest x (m .answer) r b (m .does hi rest) in
       rw (
         sorted-call x es (wld (lo ++ hi) rest r) (wld (m .low ++ hi) rest r) (m .answer) late (call-reply o (lo ++ hi) rest (m .low ++ hi) rest x (m .answer) r b (m .does hi rest)) n (mark-at x lo g r late s k),
@@ -323,7 +326,7 @@ module _ (o : Origin) (begin : Stands [] (o .names)) where
   on-early : (x : Call) (es : List Event) → Holds es → (lo hi rest : List ℕ) (g : Names) (r : Reading) → Sees r (length lo) g → Fits o begin lo g → Good o begin g (length lo) hi → markCall x (length lo) ≡ early → EarlyOf o begin x (length lo) g hi rest
       → From (calls x ∷ es) lo hi rest g r
   on-early x es ih lo hi rest g r s f q k m =
-      let b : length (lo ++ hi) ≤ 16777216 = fits-in g lo hi lo q refl in
+      let b : length (lo ++ hi) ≤ usedLimit = fits-in g lo hi lo q refl in
       let d = m .does lo f refl in
       let n : next o (wld (lo ++ hi) rest r) (calls x) ≡ wld (lo ++ m .high) (m .left) r = call-next o (lo ++ hi) rest (lo ++ m .high) (m .left) x (m .answer) r b d in
       rw (
@@ -332,9 +335,9 @@ module _ (o : Origin) (begin : Stands [] (o .names)) where
       )
       (main-early q m (ih lo (m .high) (m .left) g r s f (m .good)))
 
-  on-end : (es : List Event) (lo rest : List ℕ) (g : Names) (r : Reading) → Sees r (length lo) g → Fits o begin lo g → length lo ≤ 16777216 → atHeader o (length lo) ≡ false → From (steps ∷ es) lo [] rest g r
+  on-end : (es : List Event) (lo rest : List ℕ) (g : Names) (r : Reading) → Sees r (length lo) g → Fits o begin lo g → length lo ≤ usedLimit → atHeader o (length lo) ≡ false → From (steps ∷ es) lo [] rest g r
   on-end es lo rest g r s f b h =
-      let c : length (lo ++ []) ≤ 16777216 = rw append-nil b in
+      let c : length (lo ++ []) ≤ usedLimit = rw append-nil b in
       let d : step o (lo ++ []) r ≡ stepped (end (length lo)) r = rw append-nil (step-end o begin r g lo s f h) in
       let n : next o (wld (lo ++ []) rest r) steps ≡ wld (lo ++ []) rest r = step-next o (lo ++ []) rest r r (end (length lo)) c d in
       rw (
@@ -346,7 +349,7 @@ module _ (o : Origin) (begin : Stands [] (o .names)) where
   on-item : (es : List Event) → Holds es → (lo v hi1 rest : List ℕ) (g g1 : Names) (r r1 : Reading) (i : Item) (n : ℕ) → Fits o begin lo g → Good o begin g (length lo) (v ++ hi1) → Piece o g (length lo) v g1 → Good o begin g1 (length lo + length v) hi1
       → Sees r1 (length lo + length v) g1 → ((l hi2 : List ℕ) → Fits o begin l g → length l ≡ length lo → step o (l ++ (v ++ hi2)) r ≡ stepped (shown i n) r1) → From (steps ∷ es) lo (v ++ hi1) rest g r
   on-item es ih lo v hi1 rest g g1 r r1 i n f q pc gd s1 d =
-      let b : length (lo ++ (v ++ hi1)) ≤ 16777216 = fits-in g lo (v ++ hi1) lo q refl in
+      let b : length (lo ++ (v ++ hi1)) ≤ usedLimit = fits-in g lo (v ++ hi1) lo q refl in
       let e = d lo hi1 f refl in
       let k : next o (wld (lo ++ (v ++ hi1)) rest r) steps ≡ wld (lo ++ (v ++ hi1)) rest r1 = step-next o (lo ++ (v ++ hi1)) rest r r1 (shown i n) b e in
       rw (
@@ -372,7 +375,7 @@ module _ (o : Origin) (begin : Stands [] (o .names)) where
   main (steps ∷ es) lo hi rest g r s f q = on-step es (main es) lo hi rest g r s f q (step-of o begin r (length lo) g hi s q)
 
   -- ---- a logbook that reads to its end can be walked
-  one-step : (l rest : List ℕ) (r r1 : Reading) (x : Shown) (rs : List Reply) → length l ≤ 16777216 → replies o (wld l rest r) (replicate (suc (length rs)) steps) ≡ showed x r1 ∷ rs
+  one-step : (l rest : List ℕ) (r r1 : Reading) (x : Shown) (rs : List Reply) → length l ≤ usedLimit → replies o (wld l rest r) (replicate (suc (length rs)) steps) ≡ showed x r1 ∷ rs
       → (step o l r ≡ stepped x r1) × (replies o (wld l rest r1) (replicate (length rs) steps) ≡ rs)
   unfolding replies
   one-step l rest r r1 x rs b e =
@@ -386,15 +389,15 @@ module _ (o : Origin) (begin : Stands [] (o .names)) where
       (λ i. stepped (u i) (v i), rw v at d)
 
   reads-more : (rs : List Reply) (lo hi rest : List ℕ) {g : Names} {r : Reading}
-      → ((lo1 hi1 : List ℕ) (g1 : Names) → Sees r (length lo1) g1 → length lo1 + length hi1 ≤ 16777216 → Fits o begin lo1 g1 → replies o (wld (lo1 ++ hi1) rest r) (replicate (length rs) steps) ≡ rs → Good o begin g1 (length lo1) hi1)
-      → length lo + length hi ≤ 16777216 → Came o begin (length lo) g hi r → Fits o begin lo g → replies o (wld (lo ++ hi) rest r) (replicate (length rs) steps) ≡ rs → Good o begin g (length lo) hi
+      → ((lo1 hi1 : List ℕ) (g1 : Names) → Sees r (length lo1) g1 → length lo1 + length hi1 ≤ usedLimit → Fits o begin lo1 g1 → replies o (wld (lo1 ++ hi1) rest r) (replicate (length rs) steps) ≡ rs → Good o begin g1 (length lo1) hi1)
+      → length lo + length hi ≤ usedLimit → Came o begin (length lo) g hi r → Fits o begin lo g → replies o (wld (lo ++ hi) rest r) (replicate (length rs) steps) ≡ rs → Good o begin g (length lo) hi
   reads-more rs lo hi rest {g} {r} ih b (came w hi1 g1 a s pc) f e =
       let z : length hi ≡ length w + length hi1 = ap length a ∙ length-append w hi1 in
       rw a
       (good-more g g1 (length lo) w hi1 pc
       (rw length-append at (ih (lo ++ w) hi1 g1 (rw length-append s) (rw length-append (omega arith)) (fits-more lo w g g1 (length lo) f refl pc) (rw append-assoc (rw a at e)))))
 
-  pub reads-good : (rs : List Reply) (lo hi rest : List ℕ) (g : Names) (r : Reading) → Sees r (length lo) g → length lo + length hi ≤ 16777216 → Fits o begin lo g → ToEnd rs → replies o (wld (lo ++ hi) rest r) (replicate (length rs) steps) ≡ rs
+  pub reads-good : (rs : List Reply) (lo hi rest : List ℕ) (g : Names) (r : Reading) → Sees r (length lo) g → length lo + length hi ≤ usedLimit → Fits o begin lo g → ToEnd rs → replies o (wld (lo ++ hi) rest r) (replicate (length rs) steps) ≡ rs
       → Good o begin g (length lo) hi
   unfolding ToEnd
   reads-good [] lo hi rest g r s b f h e = absurd h
@@ -409,7 +412,7 @@ module _ (o : Origin) (begin : Stands [] (o .names)) where
 
   -- ---- demand 3
   module _ (start : Sees fresh 0 (o .names)) where
-    on-parts : (l rest : List ℕ) → length l ≤ 16777216 → Reads o (bookOf (parts l rest)) → (es : List Event) → SameInBoth o (bookOf (parts l rest)) es
+    on-parts : (l rest : List ℕ) → length l ≤ usedLimit → Reads o (bookOf (parts l rest)) → (es : List Event) → SameInBoth o (bookOf (parts l rest)) es
     unfolding reordered walk
     on-parts l rest b r es =
         let q : Good o begin (o .names) 0 l = reads-good (r .list) [] l rest (o .names) fresh start (omega arith) refl (r .isToEnd) (r .read) in
