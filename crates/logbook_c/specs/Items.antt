@@ -11,7 +11,7 @@ use Rattle.format.specs.Records.{Refusal, logbook}
 use Rattle.format.specs.Reading.{Shown, shown, end, refused, Stepped, stepped}
 use Rattle.format.specs.Calls.{bookIn, stepOn, Resolved, inLog, inNames, noUri}
 use Rattle.format.specs.Bytes.{stored}
-use Rattle.register.specs.Columns.{rowWith}
+use Rattle.register.specs.Columns.{rowWith, detailLimit, detailsOf, placesOf, lengthsOf, columns-joined}
 use Rattle.register.specs.declared.Row.{Row}
 use Rattle.record.specs.Items.{refusalOf, data-length}
 use Rattle.reading.specs.Readings.{readingOf, shownOf, Lying}
@@ -29,23 +29,13 @@ use Rattle.logbook_c.specs.declared.LogbookStep.{LogbookStep}
 use Rattle.logbook_c.specs.declared.LogbookUri.{LogbookUri}
 use Rattle.logbook_c.specs.declared.LogbookListed.{LogbookListed}
 
--- ---- a reading, both ways
+-- ---- a reading that C hands in
 abbrev pub readingFrom : LogbookReading → Reading
 readingFrom r =
     record {
       position = record { 0 = r .position };
       count = record { 0 = r .count };
-      register = record { numbers = r .numbers; details = r .details; held = r .held };
-    }
-
-abbrev pub readingAs : Reading → LogbookReading
-readingAs r =
-    record {
-      position = r .position .0;
-      count = r .count .0;
-      held = r .register .held;
-      numbers = r .register .numbers;
-      details = r .register .details;
+      register = record { numbers = r .numbers; details = detailsOf (r .places) (r .lengths); held = r .held };
     }
 
 -- ---- an item: kinds 0 to 6
@@ -208,6 +198,10 @@ item-shown l (Variant.Assignment e n m) k = rw (data-length l (e .place .0) (e .
 item-shown l (Variant.End p) k = refl
 item-shown l (Variant.Refused x) k = refl
 
+-- the details of two columns that were taken out of them
+pub columns-back : (ds ps ks : List ℕ) → length ds ≡ detailLimit → ps ≡ placesOf ds → ks ≡ lengthsOf ds → detailsOf ps ks ≡ ds
+columns-back ds ps ks e p q = rw (p, q) (columns-joined ds e)
+
 pub step-told : (l : List ℕ) (used : ℕ) (r : LogbookReading) (x : LogbookStep) (i : Item) (s : Stepped) → x .item ≡ itemAs i → Lying (take used l) i
     → stepped (shownOf (take used l) i) (readingOf (readingFrom (x .reading))) ≡ s → s ≡ stepOn logbook (bookIn l used) (readingOf (readingFrom r)) → Steps l used r x
 step-told l used r x i s e k p q =
@@ -229,8 +223,8 @@ lying-bounded used l (Variant.End p) k = tt
 lying-bounded used l (Variant.Refused x) k = tt
 
 pub list-told : (r : LogbookReading) (q : Reading) (file out₀ out : List ℕ) (t : Listed) (x : LogbookListed) → q ≡ readingFrom r
-    → Fills out₀ (fillOf file (length out₀) (readingOf q)) out (t .len) (readingOf (t .reading)) (t .over) → x .length ≡ t .len → x .over ≡ flagOf (t .over) → x .reading ≡ readingAs (t .reading)
+    → Fills out₀ (fillOf file (length out₀) (readingOf q)) out (t .len) (readingOf (t .reading)) (t .over) → x .length ≡ t .len → x .over ≡ flagOf (t .over) → readingFrom (x .reading) ≡ t .reading
     → Lists (fillOf file (length out₀) (readingOf (readingFrom r))) out₀ out x
 list-told r q file out₀ out t x e f a b d =
     subst (λ (y : Reading). Lists (fillOf file (length out₀) (readingOf y)) out₀ out x) e
-    (record { written = a ∙ f .0; last = b ∙ ap flagOf (f .2); reading = ap (λ (y : LogbookReading). readingOf (readingFrom y)) d ∙ f .1; bytes = f .3 })
+    (record { written = a ∙ f .0; last = b ∙ ap flagOf (f .2); reading = ap readingOf d ∙ f .1; bytes = f .3 })

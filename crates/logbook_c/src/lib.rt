@@ -15,7 +15,7 @@ ghost use Rattle.erasing.specs.Wipes.{wipedOf};
 ghost use Rattle.reading.specs.Readings.{readingOf};
 ghost use Rattle.listing.specs.Filling.{fillOf};
 ghost use Rattle.logbook_c.specs.Answers.{startedAs, appendedAs, erasedAs, wipedAs, Starts, Appends, Keeps};
-ghost use Rattle.logbook_c.specs.Items.{readingFrom, readingAs, rowAs, bareAs, deletedAs, liveAs, assignmentAs, refusedAs, itemAs};
+ghost use Rattle.logbook_c.specs.Items.{readingFrom, rowAs, bareAs, deletedAs, liveAs, assignmentAs, refusedAs, itemAs};
 ghost use Rattle.logbook_c.specs.Items.{BoundedEntry, Bounded, Steps, rowFrom, uriAs, flagOf, Lists};
 use appending::Appended;
 use appending::Started;
@@ -28,7 +28,7 @@ use reading::Reading;
 use record::EntryNumber;
 use record::Place;
 use record::Refusal;
-use register::Details;
+use register::Column;
 use register::Numbers;
 use register::Register;
 use register::Row;
@@ -66,7 +66,8 @@ pub struct LogbookReading {
     pub count: usize,
     pub held: usize,
     pub numbers: Numbers,
-    pub details: Details,
+    pub places: Column,
+    pub lengths: Column,
 }
 
 #[repr(C)]
@@ -243,10 +244,11 @@ fn reading_from(r: LogbookReading) -> Reading
     ensures { λ x. ⌜ x ≡ readingFrom r ⌝ }
 {
     let numbers = r.numbers;
-    let details = r.details;
+    let places = r.places;
+    let lengths = r.lengths;
     let register = Register {
         numbers,
-        details,
+        details: register::details_of(places, lengths),
         held: r.held,
     };
     Reading {
@@ -257,7 +259,7 @@ fn reading_from(r: LogbookReading) -> Reading
 }
 
 fn reading_as(r: Reading) -> LogbookReading
-    ensures { λ x. ⌜ x ≡ readingAs r ⌝ }
+    ensures { λ x. ⌜ readingFrom x ≡ r ⌝ }
 {
     let numbers = r.register.numbers;
     let details = r.register.details;
@@ -266,7 +268,8 @@ fn reading_as(r: Reading) -> LogbookReading
         count: r.count.0,
         held: r.register.held,
         numbers,
-        details,
+        places: register::places(&details),
+        lengths: register::lengths(&details),
     }
 }
 
@@ -381,7 +384,9 @@ pub extern "C" fn logbook_step(buf: &[u8], used: usize, reading: LogbookReading)
     ensures { λ r. ⌜ Steps (now (buf .entry)) used reading r ⌝ }
 {
     let mut numbers = reading.numbers;
-    let mut details = reading.details;
+    let places = reading.places;
+    let lengths = reading.lengths;
+    let mut details = register::details_of(places, lengths);
     let position = Place(reading.position);
     let count = EntryNumber(reading.count);
     let t = reading::advance(
@@ -401,7 +406,8 @@ pub extern "C" fn logbook_step(buf: &[u8], used: usize, reading: LogbookReading)
             count: t.count.0,
             held: t.held,
             numbers,
-            details,
+            places: register::places(&details),
+            lengths: register::lengths(&details),
         },
     }
 }

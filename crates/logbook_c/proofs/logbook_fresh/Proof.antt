@@ -14,7 +14,7 @@ reading-as-requires : tie.Need-reading-as-requires
 reading-as-requires c κs = search needs
 
 returns : tie.Need-returns
-returns c = ap (λ (r : LogbookReading). readingOf (readingFrom r)) (c .reading-as .ensures) ∙ c .before .fresh .ensures
+returns c = ap readingOf (c .reading-as .ensures) ∙ c .before .fresh .ensures
 
 pub logbook-fresh-spec : {M : Type 1} → statement M
 logbook-fresh-spec = tie.close (tie.spec fresh-requires reading-as-requires returns)
