@@ -2,10 +2,8 @@
 ghost use mathlib.Core.Path.{_≡_};
 ghost use Prim.Native.Nat.{_+_, _≤_};
 ghost use lib.ListN.{length};
-ghost use Rattle.format.specs.Records.{logbook};
 ghost use Rattle.format.specs.Reading as Format;
 ghost use Rattle.format.specs.Calls as Calls;
-ghost use Rattle.format.specs.Calls.{bookIn, callOn};
 ghost use Rattle.register.specs.Tables.{rowOf};
 ghost use Rattle.record.specs.Items.{refusalOf};
 ghost use Rattle.appending.specs.Starts.{startedOf};

@@ -1,8 +1,6 @@
 -- The library's reading, in a struct.
 use mathlib.Core.Path.{ap, _∙_}
 use Rattle.reading.specs.Readings.{readingOf}
-use Rattle.logbook_c.specs.Items.{readingFrom}
-use Rattle.logbook_c.specs.declared.LogbookReading.{LogbookReading}
 use borrow.Author.Needs.{needs}
 use Rattle.logbook_c.proofs.logbook_fresh.Statement.{statement}
 use Rattle.logbook_c.proofs.logbook_fresh.Tie as tie
