@@ -17,13 +17,13 @@ use Rattle.format.specs.Integers.{value, readInteger}
 use Rattle.format.specs.Laws.Integers.{read-exact}
 use Rattle.format.specs.Uris.{typeName, headerName}
 use Rattle.format.specs.Register.{find, Row, numberOf, heldRows, uriIn, impliedRow, impliedName, Named, implied, Names, namedNumber, namedUri, seenIn, rowFor}
-use Rattle.format.specs.Laws.Register.{find-number, seen-find, seen-uri, seen-row, some-some}
+use Rattle.format.specs.Laws.Register.{find-number, InsideRow, seen-find, seen-uri, seen-row, some-some}
 use Rattle.format.specs.Records.{Entry, entryOf, Kind, header, Refusal, refusal, Item, padding, deleted, live, Got, bad, got, element, headerAt, logbook, atHeader, item}
 use Rattle.format.specs.Reading.{Reading, fits, fitRows, namesIn, counted, numbered, shown, end, refused, Stepped, stepped, moved, atEnd, stepAt, step}
 use Rattle.format.specs.Calls.{Book, usedBytes, parted, isWithin, sound, stepOn, inNames, inLog, resolveRow, resolve, noUri, uriThere}
 use Rattle.format.specs.Laws.Calls.{used-long}
-use Rattle.format.specs.Refusals.{FitRow, anImplied, aWritten, Fitting}
-use Rattle.format.specs.Laws.Denials.Fits.{fits-mean, alone-fits, row-fits, row-fits-alone}
+use Rattle.format.specs.Refusals.{Fitting}
+use Rattle.format.specs.Laws.Denials.Fits.{fits-mean, fit-inside, alone-fits, row-fits, row-fits-alone}
 use Rattle.format.specs.Grammar.{RecordOf, writing, High, NoEmptyLead, leadsValue}
 use Rattle.format.specs.Shapes.{HeaderShape}
 use Rattle.format.specs.Entries.{EntryAt, ItemAt, aPadding, aDeleted, anEntry, Counted, Shows, Ends, RowFrom, ofHeader, ofReading, RowShown}
@@ -243,14 +243,6 @@ module _ (b : Book) (s : sound b ≡ true) (x : Row) where
   unfolding resolve sound
   resolved f = rw (s, f) row-there
 
-fit-place : (p : ℕ) (x : Row) → FitRow p x → x .implied ≡ true → (x .place ≡ 0) × (x .length ≡ 0)
-fit-place p x (anImplied i n a c) e = (a, c)
-fit-place p x (aWritten i a c d) e = true-false (sym e ∙ i)
-
-fit-inside : (p : ℕ) (x : Row) → FitRow p x → x .place + x .length ≤ p
-fit-inside p x (anImplied i n a c) = omega arith
-fit-inside p x (aWritten i a c d) = d
-
 -- what is given lies in the used bytes
 not-inside : {P : Type 0} {x : Refusal} {p n : ℕ} → noUri x ≡ inLog p n → P
 not-inside e = from-zero-one (cc)
@@ -269,7 +261,7 @@ resolved-inside len used r p n e =
     (λ s. by-test (fitRows 0 used (r ∷ []))
     (λ f. by-test (r .implied)
     (λ i. names-inside (eqb (r .number) 1) (rw (s, f, i) at e))
-    (λ i. let q = log-place (rw (s, f, i) at e) in omega (arith, q .0, q .1, fit-inside used r (alone-fits used r f))))
+    (λ i. let q = log-place (rw (s, f, i) at e) in omega (arith, q .0, q .1, fit-inside used used r (omega arith) (alone-fits used r f) .within)))
     (λ f. not-inside (rw (s, f) at e)))
     (λ s. not-inside (rw s at e))
 
@@ -284,8 +276,8 @@ module _ (b : Book) (r : Reading) (s : sound b ≡ true) (f : fits r (length (us
   row-named n y o (some x) q z e u w =
       let t : seenIn (usedBytes b) x ≡ y = some-some z in
       let k = row-fits r (b .used) n x fitting q in
-      let m : x .place + x .length ≤ length (usedBytes b) = omega (arith, fit-inside (r .position) x k, fitting .within, book-long b s) in
-      let a : e .row ≡ x = u ∙ ap rowFor (sym t) ∙ seen-row (usedBytes b) x (fit-place (r .position) x k) m in
+      let m : InsideRow (length (usedBytes b)) x = fit-inside (r .position) (length (usedBytes b)) x (omega (arith, fitting .within, book-long b s)) k in
+      let a : e .row ≡ x = u ∙ ap rowFor (sym t) ∙ seen-row (usedBytes b) x m in
       let c : uriIn (usedBytes b) x ≡ e .uri = sym (w ∙ ap namedUri (sym t) ∙ seen-uri (usedBytes b) x) in
       let j : find numberOf (x .number) (heldRows (r .table)) ≡ some x = ap (λ (i : ℕ). find numberOf i (heldRows (r .table))) (find-number numberOf n (heldRows (r .table)) x q) ∙ q in
       record {
