@@ -1,12 +1,12 @@
 -- Laws of equality by bytes, and of bytes stored in a list.
 use mathlib.Core.Path.{_≡_, refl, sym, ap, _∙_}
 use mathlib.Core.Bool.{Bool, true, false}
-use mathlib.Core.List.{List, [], _∷_, _++_, append-assoc}
+use mathlib.Core.List.{List, [], _∷_, _++_, append-assoc, append-nil}
 use Prim.Native.Nat.{ℕ, zero, suc, _+_, _-_, _<_, _≤_}
 use native.Mathlib.Omega.{arith}
-use native.Mathlib.Nat.{add-zero, add-assoc}
+use native.Mathlib.Nat.{zero-add, add-zero, add-assoc}
 use borrow.Author.Tests.{eqb-true, eq-eqb}
-use lib.ListN.{length, take, drop, set, getD, length-append, length-drop, take-append-drop}
+use lib.ListN.{length, take, drop, set, getD, length-append, length-drop, take-append-drop, drop-of-length-le}
 use lib.Seq.{drop-cons, drop-drop, drop-at, take-at, set-at, length-take-le}
 use lib.Dec.{eqb}
 use Rattle.format.specs.Laws.Cases.{and-left, and-right}
@@ -94,6 +94,11 @@ module _ (d : List ℕ) (place : ℕ) where
 
     pub stored-behind : (n : ℕ) (y : List ℕ) → n ≡ place + length x → stored (stored d place x) n y ≡ stored d place (x ++ y)
     stored-behind n y e = rw e (bytes-more y)
+
+-- bytes stored over all of the list
+pub stored-all : (d x : List ℕ) → length x ≡ length d → stored d 0 x ≡ x
+unfolding stored
+stored-all d x e = rw (zero-add, drop-of-length-le d {i = length x} (omega arith)) (append-nil x)
 
 pub stored-first : (d : List ℕ) (place b : ℕ) → place < length d → set d place b ≡ stored d place (b ∷ [])
 stored-first d place b h =
