@@ -35,13 +35,15 @@ extern "C" {
 #define LOGBOOK_FILE_LIMIT 65536u         /* the longest file that is listed */
 #define LOGBOOK_LINE_LIMIT 320u           /* room that a listing asks for each line */
 
-/* ---- refusals: the number, when it is given, and the place that comes with it (0 where none is named) */
+/*
+ * ---- refusals: the number, when it is given, and the place that comes with it (0 where none is named). 4 was withdrawn; 14, 15 and 16
+ * stand where it stood. In one record they come in the order 2, 14, 15, 16, 6, 3, 5, 7. Later versions may have further numbers.
+ */
 enum {
     LOGBOOK_DONE = 0,            /* not refused */
     LOGBOOK_USED_LENGTH = 1,     /* the used length is over the buffer's, or over 16,777,216 */
     LOGBOOK_INCOMPLETE = 2,      /* a record isn't whole at the used length; its start */
     LOGBOOK_NOT_HEADER = 3,      /* a header hasn't the header's form; its start */
-    LOGBOOK_BROKEN = 4,          /* a broken integer, or a type past its size; the record's start */
     LOGBOOK_BAD_ASSIGNMENT = 5,  /* an assignment's data missing or broken, number 0, or its URI not allowed; the record's start */
     LOGBOOK_NOT_HELD = 6,        /* a record's type number isn't held; the record's start */
     LOGBOOK_REGISTER_FULL = 7,   /* 32 numbers are held and a further one is assigned; the record's start, or the used length */
@@ -50,7 +52,10 @@ enum {
     LOGBOOK_BAD_REQUEST = 10,    /* data too long, URI not allowed, number 0 or too great, UUID or free part of another length */
     LOGBOOK_NO_TYPE_NUMBER = 11, /* an assignment is needed, and no number holds urn:lozizol:type */
     LOGBOOK_NO_ROOM = 12,        /* the records don't fit the buffer or the limit; the used length (start: 0) */
-    LOGBOOK_NOT_FITTING = 13     /* the reading (or the row) that was handed in doesn't fit */
+    LOGBOOK_NOT_FITTING = 13,    /* the reading (or the row) that was handed in doesn't fit */
+    LOGBOOK_EMPTY_LEAD = 14,     /* a size or a type begins with the byte 80; that byte */
+    LOGBOOK_TOO_LONG = 15,       /* a size or a type isn't over at the last byte that it may have, its fourth; that byte */
+    LOGBOOK_PAST_SIZE = 16       /* a type isn't over within its record's size; the record's last byte */
 };
 
 /* ---- start a logbook: a header over the first 109 bytes; the others stay. `used` is 109 (and `place` 0), or 0 where refused (10, 12). */

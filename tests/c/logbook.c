@@ -233,29 +233,40 @@ static void refusals(uint8_t *buf) {
     CHECK(memcmp(before, buf, ROOM) == 0);
 }
 
-/* Faults in the bytes themselves, each behind the header, met by a step, an append, an erase and a wipe. */
+/* Faults in the bytes themselves, each behind the header, met by a step, an append, an assignment, an erase, a wipe and a listing. */
 static void faults(void) {
     static const struct {
         const char *bytes;
-        size_t length, refusal;
+        size_t length, refusal, place;
     } cases[] = {
-        {"\x81", 1, LOGBOOK_INCOMPLETE},         {"\x80", 1, LOGBOOK_BROKEN},     {"\x01\x81", 2, LOGBOOK_BROKEN},
-        {"\x02\x01\x00", 3, LOGBOOK_BAD_ASSIGNMENT}, {"\x02\x07x", 3, LOGBOOK_NOT_HELD}, {"\x01\x6F", 2, LOGBOOK_NOT_HEADER},
+        {"\x81", 1, LOGBOOK_INCOMPLETE, 109},
+        {"\x80", 1, LOGBOOK_EMPTY_LEAD, 109},
+        {"\x02\x80\x02", 3, LOGBOOK_EMPTY_LEAD, 110},
+        {"\xFF\xFF\xFF\xFF", 4, LOGBOOK_TOO_LONG, 112},
+        {"\x04\xFF\xFF\xFF\xFF", 5, LOGBOOK_TOO_LONG, 113},
+        {"\x01\x81", 2, LOGBOOK_PAST_SIZE, 110},
+        {"\x03\xFF\xFF\xFF", 4, LOGBOOK_PAST_SIZE, 112},
+        {"\x02\x01\x80", 3, LOGBOOK_BAD_ASSIGNMENT, 109},
+        {"\x02\x07x", 3, LOGBOOK_NOT_HELD, 109},
+        {"\x01\x6F", 2, LOGBOOK_NOT_HEADER, 109},
     };
     uint8_t buf[ROOM];
     memset(buf, 0, sizeof buf);
     CHECK(start(buf, ROOM).refusal == LOGBOOK_DONE);
     logbook_reading reading = logbook_step(buf, ROOM, LOGBOOK_HEADER_LENGTH, logbook_fresh()).reading;
     for (size_t index = 0; index < sizeof cases / sizeof cases[0]; index++) {
-        size_t used = LOGBOOK_HEADER_LENGTH + cases[index].length, refusal = cases[index].refusal;
+        size_t used = LOGBOOK_HEADER_LENGTH + cases[index].length, refusal = cases[index].refusal, place = cases[index].place;
         memcpy(buf + LOGBOOK_HEADER_LENGTH, cases[index].bytes, cases[index].length);
         logbook_step_result result = logbook_step(buf, ROOM, used, reading);
-        CHECK(result.item.kind == LOGBOOK_REFUSED && REFUSED(result.item, refusal, 109));
+        CHECK(result.item.kind == LOGBOOK_REFUSED && REFUSED(result.item, refusal, place));
         CHECK(memcmp(&result.reading, &reading, sizeof reading) == 0);
-        CHECK(REFUSED(logbook_append(buf, ROOM, used, TEXT("a:"), TEXT("")), refusal, 109));
-        CHECK(REFUSED(logbook_assign(buf, ROOM, used, 2, TEXT("a:")), refusal, 109));
-        CHECK(REFUSED(logbook_erase(buf, ROOM, used, 109), refusal, 109));
-        CHECK(REFUSED(logbook_wipe(buf, ROOM, used, 109, 1), refusal, 109));
+        CHECK(REFUSED(logbook_append(buf, ROOM, used, TEXT("a:"), TEXT("")), refusal, place));
+        CHECK(REFUSED(logbook_assign(buf, ROOM, used, 2, TEXT("a:")), refusal, place));
+        CHECK(REFUSED(logbook_erase(buf, ROOM, used, 109), refusal, place));
+        CHECK(REFUSED(logbook_wipe(buf, ROOM, used, 109, 1), refusal, place));
+        char text[80];
+        snprintf(text, sizeof text, "0\t1\turn:lozizol:header\t107\nrefused\t%zu\t%zu\n", refusal, place);
+        CHECK(lists(buf, used, 1000, text));
     }
 }
 

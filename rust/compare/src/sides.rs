@@ -67,31 +67,39 @@ pub enum Answer {
 impl Answer {
     /// The column in a tally; `used` is the used length that was handed in.
     pub fn column(&self, used: usize) -> usize {
+        match (self, self.refusal()) {
+            (Answer::Appended(_), (7, place)) if place == used => FULL_FOR_REQUEST,
+            (_, (number, _)) => number,
+        }
+    }
+
+    /// The refusal's number and place; the number of a result is 0.
+    pub fn refusal(&self) -> (usize, usize) {
         match self {
-            Answer::Started(answer) => answer.refusal,
-            Answer::Appended(answer) if answer.refusal == 7 && answer.place == used => {
-                FULL_FOR_REQUEST
-            }
-            Answer::Appended(answer) => answer.refusal,
-            Answer::Erased(answer) => answer.refusal,
-            Answer::Wiped(answer) => answer.refusal,
-            Answer::Stepped { step, .. } => step.item.refusal,
+            Answer::Started(answer) => (answer.refusal, answer.place),
+            Answer::Appended(answer) => (answer.refusal, answer.place),
+            Answer::Erased(answer) => (answer.refusal, answer.place),
+            Answer::Wiped(answer) => (answer.refusal, answer.place),
+            Answer::Stepped { step, .. } => (step.item.refusal, step.item.place),
             Answer::Listed(text) => listed_refusal(text),
         }
     }
 }
 
-/// The refusal's number in the last line of a listing; 0 where it ends.
-fn listed_refusal(text: &[u8]) -> usize {
+/// Number and place of the refusal in the last line of a listing; the number is 0 where it ends.
+fn listed_refusal(text: &[u8]) -> (usize, usize) {
     let last = text.trim_ascii_end().rsplit(|&byte| byte == b'\n').next();
     let mut words = last.unwrap_or_default().split(|&byte| byte == b'\t');
     if words.next() != Some(b"refused") {
-        return 0;
+        return (0, 0);
     }
-    let number = words.next().unwrap_or_default();
-    number
-        .iter()
-        .fold(0, |number, digit| number * 10 + usize::from(digit - b'0'))
+    let mut figure = || words.next().unwrap_or_default().iter().fold(0, tenfold);
+    (figure(), figure())
+}
+
+/// A decimal number with one more digit.
+fn tenfold(number: usize, digit: &u8) -> usize {
+    number * 10 + usize::from(digit - b'0')
 }
 
 /// The library's answer.

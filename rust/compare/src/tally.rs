@@ -5,8 +5,8 @@ use std::fmt;
 /// The calls, in the order of a tally's rows.
 pub const CALLS: [&str; 7] = ["start", "append", "assign", "erase", "wipe", "step", "list"];
 /// The column of a 7 that is due to the request; 7 itself is one of the walk.
-pub const FULL_FOR_REQUEST: usize = 14;
-/// Column 0 is a result, 1 to 13 are the refusals.
+pub const FULL_FOR_REQUEST: usize = 17;
+/// Column 0 is a result, 1 to 16 are the refusals; 4 was withdrawn.
 pub const COLUMNS: usize = FULL_FOR_REQUEST + 1;
 
 /// Counts by call and column.

@@ -8,10 +8,10 @@ const ROUNDS: usize = 54_000;
 /// The calls that the usual run compares at least.
 const CALLS_AT_LEAST: u64 = 2_000_000;
 
-/// 01, "Refusals and their order": what each call can come to, 0 for its result.
-/// A step looks at its own item only, the walk knows 2 to 7.
+/// 01, "Refusals and their order", with 02 [1]: what each call can come to, 0 for its result.
+/// A step looks at its own item only, the walk knows 2 to 7 (4 was withdrawn) and 14 to 16.
 fn can_occur(call: &str) -> Vec<usize> {
-    let walk = [0, 1, 2, 3, 4, 5, 6, 7];
+    let walk = [0, 1, 2, 3, 5, 6, 7, 14, 15, 16];
     match call {
         "start" => vec![0, 10, 12],
         "append" | "assign" => [&walk[..], &[10, 11, 12, FULL_FOR_REQUEST]].concat(),

@@ -2,7 +2,7 @@
 
 use compare::files::{check, check_changes, demo};
 use compare::settings::spread;
-use compare::tally::Tally;
+use compare::tally::{Tally, COLUMNS};
 
 /// Files up to this length get all 255 changes of each byte, longer ones eight.
 const SMALL: usize = 1_000;
@@ -27,7 +27,7 @@ fn prefixes_and_changes_agree() {
             Tally::join,
         ));
     }
-    let listings: u64 = (0..8).map(|column| tally.of(6, column)).sum();
+    let listings: u64 = (0..COLUMNS).map(|column| tally.of(6, column)).sum();
     println!(
         "{} files, {listings} listings, {} calls\n{tally}",
         files.len(),

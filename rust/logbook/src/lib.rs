@@ -28,7 +28,7 @@
 //! # Ok::<(), Refusal>(())
 //! ```
 //!
-//! Every call takes any bytes and any request, and ends with its result or with one of thirteen
+//! Every call takes any bytes and any request, and ends with its result or with one of fifteen
 //! [refusals](Refusal); a refused call changes nothing. What a call answers and stores is proved of
 //! the static library; this crate only hands arguments and answers through. [`raw`] has the
 //! library's own structs and calls, and all of the crate's unsafe code.

@@ -142,8 +142,8 @@ impl Reading {
     ///
     /// # Errors
     ///
-    /// 1 for the used length, 13 for a reading that doesn't fit, then 2, 4, 6, 3, 5 and 7 for the
-    /// item. The reading stays usable.
+    /// 1 for the used length, 13 for a reading that doesn't fit, then 2, 14, 15, 16, 6, 3, 5 and 7
+    /// for the item. The reading stays usable.
     ///
     /// ```
     /// use logbook::{Place, Reading, Refusal};
@@ -234,6 +234,27 @@ pub struct Items<'b> {
     bytes: &'b [u8],
     reading: Reading,
     over: bool,
+}
+
+impl Items<'_> {
+    /// The reading behind the items so far. After a refusal it stands where the refused record
+    /// starts, which 14, 15 and 16 don't say.
+    ///
+    /// ```
+    /// use logbook::{Logbook, Place, Refusal};
+    ///
+    /// let mut bytes = [0; 111];
+    /// Logbook::start(&mut bytes, &[7; 16], &[0; 60])?;
+    /// bytes[109..].copy_from_slice(&[0x01, 0x81]);
+    /// let mut items = logbook::items(&bytes);
+    /// let refusal = Refusal::PastSize { place: Place(110) };
+    /// assert_eq!(items.by_ref().last(), Some(Err(refusal)));
+    /// assert_eq!(items.reading().position(), Place(109));
+    /// # Ok::<(), Refusal>(())
+    /// ```
+    pub fn reading(&self) -> &Reading {
+        &self.reading
+    }
 }
 
 impl<'b> Iterator for Items<'b> {

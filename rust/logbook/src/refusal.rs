@@ -1,11 +1,12 @@
-//! The thirteen refusals.
+//! The fifteen refusals.
 
 use crate::Place;
 use std::fmt;
 
 /// Why a call was refused. A refused call has changed nothing.
 ///
-/// The order is that of the numbers, 1 to 13. [`Display`](fmt::Display) gives its sentence.
+/// The order is that of the numbers, 1 to 16; 4 was withdrawn, and 14, 15 and 16 say in its place
+/// which byte is wrong. [`Display`](fmt::Display) gives its sentence.
 ///
 /// ```
 /// use logbook::{Place, Refusal};
@@ -19,6 +20,7 @@ use std::fmt;
 /// );
 /// ```
 #[derive(Clone, Copy, PartialEq, Eq, Hash, Debug)]
+#[non_exhaustive]
 pub enum Refusal {
     /// 1: the used length is over the buffer's, or over 16,777,216.
     UsedLength,
@@ -30,11 +32,6 @@ pub enum Refusal {
     /// 3: a header hasn't the header's form.
     NotHeader {
         /// Where the header starts.
-        place: Place,
-    },
-    /// 4: a broken integer, or a type past its size.
-    Broken {
-        /// Where the record starts.
         place: Place,
     },
     /// 5: an assignment's data is missing or broken, its number is 0, or its URI isn't allowed.
@@ -74,16 +71,39 @@ pub enum Refusal {
     },
     /// 13: the reading that was handed in doesn't fit.
     NotFitting,
+    /// 14: a size or a type begins with the byte 80.
+    EmptyLead {
+        /// Where that byte is.
+        place: Place,
+    },
+    /// 15: a size or a type isn't over at the last byte that it may have, its fourth.
+    TooLong {
+        /// Where that byte is.
+        place: Place,
+    },
+    /// 16: a type isn't over within its record's size.
+    PastSize {
+        /// Where the record's last byte is.
+        place: Place,
+    },
+    /// A number that this version has no name for, as it came.
+    Other {
+        /// The number.
+        number: usize,
+        /// The place that came with it.
+        place: Place,
+    },
 }
 
 impl Refusal {
-    /// The refusal of a number, 1 to 13; the place counts only where this refusal names one.
+    /// The refusal of a number; 0 is none. The place counts only where this refusal names one. A
+    /// number without a name, the withdrawn 4 too, is kept as [`Other`](Refusal::Other).
     pub fn from_number(number: usize, place: Place) -> Option<Refusal> {
         Some(match number {
+            0 => return None,
             1 => Refusal::UsedLength,
             2 => Refusal::Incomplete { place },
             3 => Refusal::NotHeader { place },
-            4 => Refusal::Broken { place },
             5 => Refusal::BadAssignment { place },
             6 => Refusal::NotHeld { place },
             7 => Refusal::RegisterFull { place },
@@ -93,17 +113,19 @@ impl Refusal {
             11 => Refusal::NoTypeNumber,
             12 => Refusal::NoRoom { place },
             13 => Refusal::NotFitting,
-            _ => return None,
+            14 => Refusal::EmptyLead { place },
+            15 => Refusal::TooLong { place },
+            16 => Refusal::PastSize { place },
+            _ => Refusal::Other { number, place },
         })
     }
 
-    /// The refusal's number, 1 to 13.
+    /// The refusal's number.
     pub fn number(&self) -> usize {
-        match self {
+        match *self {
             Refusal::UsedLength => 1,
             Refusal::Incomplete { .. } => 2,
             Refusal::NotHeader { .. } => 3,
-            Refusal::Broken { .. } => 4,
             Refusal::BadAssignment { .. } => 5,
             Refusal::NotHeld { .. } => 6,
             Refusal::RegisterFull { .. } => 7,
@@ -113,6 +135,10 @@ impl Refusal {
             Refusal::NoTypeNumber => 11,
             Refusal::NoRoom { .. } => 12,
             Refusal::NotFitting => 13,
+            Refusal::EmptyLead { .. } => 14,
+            Refusal::TooLong { .. } => 15,
+            Refusal::PastSize { .. } => 16,
+            Refusal::Other { number, .. } => number,
         }
     }
 
@@ -121,13 +147,16 @@ impl Refusal {
         match *self {
             Refusal::Incomplete { place }
             | Refusal::NotHeader { place }
-            | Refusal::Broken { place }
             | Refusal::BadAssignment { place }
             | Refusal::NotHeld { place }
             | Refusal::RegisterFull { place }
             | Refusal::NothingThere { place }
             | Refusal::Fixed { place }
-            | Refusal::NoRoom { place } => Some(place),
+            | Refusal::NoRoom { place }
+            | Refusal::EmptyLead { place }
+            | Refusal::TooLong { place }
+            | Refusal::PastSize { place }
+            | Refusal::Other { place, .. } => Some(place),
             Refusal::UsedLength
             | Refusal::BadRequest
             | Refusal::NoTypeNumber
@@ -144,10 +173,6 @@ impl Refusal {
                 "the record that starts there isn't whole at the used length"
             }
             Refusal::NotHeader { .. } => "the header that starts there hasn't the header's form",
-            Refusal::Broken { .. } => {
-                "the record that starts there has a broken integer, \
-                 or a type that goes past its size"
-            }
             Refusal::BadAssignment { .. } => {
                 "the assignment that starts there has no number, a broken one or 0, \
                  or a URI that isn't allowed"
@@ -177,6 +202,18 @@ impl Refusal {
                  or the limit of 16,777,216 bytes is reached"
             }
             Refusal::NotFitting => "the reading doesn't fit these bytes and this used length",
+            Refusal::EmptyLead { .. } => {
+                "the byte there is 80 and begins a size or a type, and none begins with 80"
+            }
+            Refusal::TooLong { .. } => {
+                "the byte there is the fourth of a size or a type, the last one allowed, \
+                 and it says that another follows"
+            }
+            Refusal::PastSize { .. } => {
+                "the byte there is the last one of its record, \
+                 and it says that the record's type goes on"
+            }
+            Refusal::Other { .. } => "this version has no name for that number",
         }
     }
 }
@@ -195,9 +232,5 @@ impl std::error::Error for Refusal {}
 
 /// What a C answer's number and place say: 0 is no refusal.
 pub(crate) fn judged(number: usize, place: usize) -> Result<(), Refusal> {
-    if number == 0 {
-        return Ok(());
-    }
-    // The header has no number past 13.
-    Err(Refusal::from_number(number, Place(place)).unwrap_or(Refusal::NotFitting))
+    Refusal::from_number(number, Place(place)).map_or(Ok(()), Err)
 }

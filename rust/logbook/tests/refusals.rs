@@ -60,18 +60,59 @@ fn not_header() {
 }
 
 #[test]
-fn broken() {
-    let reason =
-        "the record that starts there has a broken integer, or a type that goes past its size";
-    says(behind_header(b"\x80\x11"), 4, Some(109), reason);
-    says(behind_header(b"\0\x01\x81"), 4, Some(110), reason);
+fn a_first_byte_80() {
+    let reason = "the byte there is 80 and begins a size or a type, and none begins with 80";
+    says(behind_header(b"\x80\x11"), 14, Some(109), reason);
+    says(behind_header(b"\x80"), 14, Some(109), reason);
+    says(behind_header(b"\0\x01\x80"), 14, Some(111), reason);
+    says(behind_header(b"\x02\x80\x00"), 14, Some(110), reason);
+}
+
+#[test]
+fn a_fifth_byte_asked_for() {
+    let reason = "the byte there is the fourth of a size or a type, the last one allowed, \
+                  and it says that another follows";
+    says(behind_header(b"\xFF\xFF\xFF\xFF"), 15, Some(112), reason);
+    // The type isn't over within its size either.
+    says(
+        behind_header(b"\x04\xFF\xFF\xFF\xFF"),
+        15,
+        Some(113),
+        reason,
+    );
+    let mut long = b"\x81\x00\x81\x80\x80\x80".to_vec();
+    long.resize(2 + 128, 0);
+    says(behind_header(&long), 15, Some(114), reason);
+}
+
+#[test]
+fn a_type_past_its_size() {
+    let reason = "the byte there is the last one of its record, \
+                  and it says that the record's type goes on";
+    says(behind_header(b"\0\x01\x81"), 16, Some(111), reason);
+    // The byte behind the record would be the type's fourth.
+    says(
+        behind_header(b"\x03\xFF\xFF\xFF\xFF"),
+        16,
+        Some(112),
+        reason,
+    );
 }
 
 #[test]
 fn bad_assignment() {
     let reason = "the assignment that starts there has no number, a broken one or 0, \
                   or a URI that isn't allowed";
-    for rest in [&b"\x01\x01"[..], b"\x02\x01\x00", b"\x04\x01\x02:a"] {
+    let faulty: [&[u8]; 6] = [
+        b"\x01\x01",
+        b"\x02\x01\x00",
+        b"\x04\x01\x02:a",
+        // A broken number is none of 14, 15 and 16.
+        b"\x02\x01\x80",
+        b"\x05\x01\xFF\xFF\xFF\xFF",
+        b"\x02\x01\x81",
+    ];
+    for rest in faulty {
         says(behind_header(rest), 5, Some(109), reason);
     }
 }
@@ -213,8 +254,29 @@ fn a_refusal_ends_the_items() -> Result<(), Refusal> {
 }
 
 #[test]
-fn there_are_thirteen() {
+fn there_are_fifteen() {
     assert_eq!(Refusal::from_number(0, Place(0)), None);
-    assert_eq!(Refusal::from_number(14, Place(0)), None);
-    assert_eq!(Refusal::from_number(usize::MAX, Place(0)), None);
+    let numbers = (1..=100).filter(|&number| {
+        let refusal = Refusal::from_number(number, Place(7)).expect("a refusal");
+        assert_eq!(refusal.number(), number);
+        !matches!(refusal, Refusal::Other { .. })
+    });
+    let numbers: Vec<usize> = numbers.collect();
+    assert_eq!(
+        numbers,
+        [1, 2, 3, 5, 6, 7, 8, 9, 10, 11, 12, 13, 14, 15, 16]
+    );
+}
+
+#[test]
+fn a_number_without_a_name_is_kept() {
+    for number in [4, 17, usize::MAX] {
+        let place = Place(7);
+        says(
+            Refusal::Other { number, place },
+            number,
+            Some(7),
+            "this version has no name for that number",
+        );
+    }
 }

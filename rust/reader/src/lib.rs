@@ -1,5 +1,6 @@
 //! An independent implementation of the Lozizol 0.5 logbook, written from the
-//! papers alone: 01 (the scope, which decides) and 000 (the format).
+//! papers alone: 01 (the scope, which decides), 02 \[1\] (the one change
+//! request that has landed) and 000 (the format).
 //!
 //! A logbook is a lent buffer and a used length. [`start`] makes one,
 //! [`Reading::step`] reads it item by item, [`append`] and [`assign`] write at
@@ -10,15 +11,17 @@
 //!
 //! Where the papers can be read in two ways, the most literal one was taken:
 //!
-//! 1. *Place 0.* A step or walk at position 0 knows only refusals 2 and 3 and
-//!    never looks at the rows. A reading handed in at position 0 with implied
-//!    rows fits (a written row cannot: it would have to end at place 0); its
-//!    step reads the header and leaves exactly the two implied rows.
+//! 1. *Place 0.* A step or walk at position 0 knows only refusals 2 and 3 (a
+//!    first byte 80 is one of these there, not 14) and never looks at the
+//!    rows. A reading handed in at position 0 with implied rows fits (a written
+//!    row cannot: it would have to end at place 0); its step reads the header
+//!    and leaves exactly the two implied rows.
 //! 2. *Used length 0.* "No end is reported there": every walk, an erase's and
 //!    a wipe's too, is refused with 2 at place 0.
-//! 3. *A size that is broken and short.* A first byte 80 as the last used byte
-//!    is 4; 81, FF FF or FF FF FF running into the used length is 2; four
-//!    bytes with the top bit set are 4.
+//! 3. *A size that is broken and short.* It is "never called incomplete": a
+//!    first byte 80 is 14 also as the last used byte, and four bytes with the
+//!    top bit set are 15 also as the last used ones. 81, FF FF or FF FF FF
+//!    running into the used length is 2.
 //! 4. *Size 0.* Its only writing is the byte 00, so it is always padding.
 //! 5. *Assignment data.* "Broken" includes an integer that isn't over within
 //!    the data; "missing" is no data at all. Both are 5.
@@ -50,6 +53,25 @@
 //!     10 and 12 are known there, and 109 bytes fit.
 //! 18. *The listing* shows live entries only. A file over 65,536 bytes gives
 //!     the single line `refused`, 1, 0.
+//! 19. *Two of 14, 15 and 16 at once.* They stand "in that order", so the first
+//!     that applies is given: 80 FF FF FF is 14 and not 15, as a size or a
+//!     type; the record 01 80 is 14 and not 16; the record 04 FF FF FF FF is 15
+//!     and not 16.
+//! 20. *Sizes and types.* A size can be 14 or 15, and then no type is looked
+//!     at; one that isn't over is 2, never 16, which says "type". A type can be
+//!     any of the three, once its record is complete: 02 80 at the used
+//!     length is 2.
+//! 21. *A type's bytes* are those within its size. The record 03 FF FF FF is 16
+//!     at its last FF, also where a further FF stands behind it. So 16 is only
+//!     met with a size of 1, 2 or 3, every byte of the body with the top bit
+//!     set and the first one not 80.
+//! 22. *The number in an assignment's data* is neither size nor type. 01 lists
+//!     it under 5 ("broken"), which 02 \[1\] leaves as it is: with a first byte
+//!     80 (03 01 80 02) or over its length limit (05 01 FF FF FF FF) it is 5 at
+//!     the record's start, as it is where it isn't over (point 5).
+//! 23. *The places of 14, 15 and 16* are those of bytes, counted as any other
+//!     place. "The fourth byte" is the integer's own fourth, so a type's is
+//!     found behind the whole size: 81 00 FF FF FF FF at 109 is 15 at 114.
 
 #![forbid(unsafe_code)]
 #![warn(missing_docs)]

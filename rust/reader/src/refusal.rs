@@ -1,11 +1,12 @@
-//! The numbered refusals (01, Refusals and their order).
+//! The numbered refusals (01, Refusals and their order; 02 \[1\]).
 
 /// A refusal: its number in 01's table and its place (0 where none is shown).
 ///
-/// 01, Refusals: "every refusal returns its number and a place".
+/// 01, Refusals: "every refusal returns its number and a place". 02 \[1\]: "4
+/// is withdrawn; 14, 15, 16 stand where it stood, in that order".
 #[derive(Clone, Copy, PartialEq, Eq, Debug)]
 pub struct Refusal {
-    /// 01, Refusals: the number, 1 to 13.
+    /// 01, Refusals; 02 \[1\]: the number, 1 to 3 or 5 to 16.
     pub number: u8,
     /// 01, Refusals: the place, 0 where the table shows none.
     pub place: usize,
@@ -35,9 +36,19 @@ impl Refusal {
         Refusal::new(3, place)
     }
 
-    /// Broken integer or type past its size.
-    pub(crate) const fn broken(place: usize) -> Refusal {
-        Refusal::new(4, place)
+    /// The first byte of a size or type is 80. The place is that byte's.
+    pub(crate) const fn leading_zero(place: usize) -> Refusal {
+        Refusal::new(14, place)
+    }
+
+    /// A size or type is over its length limit. The place is its fourth byte's.
+    pub(crate) const fn too_long(place: usize) -> Refusal {
+        Refusal::new(15, place)
+    }
+
+    /// Type not over within its size. The place is the record's last byte's.
+    pub(crate) const fn type_past_size(place: usize) -> Refusal {
+        Refusal::new(16, place)
     }
 
     /// Assignment data missing, broken, number 0, or URI not allowed.

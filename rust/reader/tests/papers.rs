@@ -1,4 +1,4 @@
-//! The cases of paper 01, run through the public calls.
+//! The cases of papers 01 and 02 [1], run through the public calls.
 
 use reader::*;
 
@@ -64,23 +64,23 @@ fn refused<T>(number: u8, place: usize) -> Result<T, Refusal> {
     Err(Refusal { number, place })
 }
 
-/// How the reading of a header and then these bytes is refused.
+/// How the reading of a header and then these bytes is refused; every call
+/// that walks them, and the listing of a file, are refused alike.
 fn refusal_of(bytes: &[u8]) -> Option<(u8, usize)> {
     let log = book(&[bytes]);
-    let (_, _, refusal) = items(&log);
-    let mut buf = log.clone();
-    let appended = append(&mut buf, log.len(), b"a:", b"");
-    if let Some(refusal) = refusal {
-        assert_eq!(appended, Err(refusal));
-        assert_eq!(
-            erase(&mut buf, log.len(), usize::MAX),
-            refused(refusal.number, refusal.place)
-        );
-        let last = format!("refused\t{}\t{}\n", refusal.number, refusal.place);
+    let Refusal { number, place } = items(&log).2?;
+    let (mut buf, used) = (log.clone(), log.len());
+    assert_eq!(append(&mut buf, used, b"a:", b""), refused(number, place));
+    assert_eq!(assign(&mut buf, used, 2, b"a:"), refused(number, place));
+    assert_eq!(assign(&mut buf, used, 2, b""), refused(number, place));
+    assert_eq!(erase(&mut buf, used, usize::MAX), refused(number, place));
+    assert_eq!(wipe(&mut buf, used, usize::MAX, 1), refused(number, place));
+    assert_eq!(buf, log);
+    if used <= 65_536 {
+        let last = format!("refused\t{number}\t{place}\n");
         assert!(text(&log).ends_with(&last));
-        assert_eq!(buf, log);
     }
-    refusal.map(|refusal| (refusal.number, refusal.place))
+    Some((number, place))
 }
 
 /// `count` assignments of the numbers from `first` up, all to "a:".
@@ -156,17 +156,260 @@ fn m1_to_m10_as_sizes_and_types() {
     for (bytes, refusal) in [
         (&b"\x87\xFF\xFF\x7F"[..], (2, 109)), // M6, M7: sound but too long
         (b"\xFF\xFF\xFF\x7F", (2, 109)),
-        (b"\x80\x11", (4, 109)), // M8
-        (b"\x80", (4, 109)),
-        (b"\x81", (2, 109)), // M9
-        (b"\xFF\xFF\xFF", (2, 109)),
-        (b"\xFF\xFF\xFF\xFF", (4, 109)), // M10
-        (b"\x00\x02\x80\x01", (4, 110)), // the type: the same, and past its size
-        (b"\x04\xFF\xFF\xFF\xFF", (4, 109)),
-        (b"\x01\x81\x05", (4, 109)),
-        (b"\x04\x80", (2, 109)), // incomplete before the type is looked at
+        (b"\x80\x11", (14, 109)),          // M8
+        (b"\x81", (2, 109)),               // M9
+        (b"\xFF\xFF\xFF\xFF", (15, 112)),  // M10
+        (b"\x00\x03\x80\x11a", (14, 111)), // M8 to M10 as types
+        (b"\x00\x01\x81", (16, 111)),
+        (b"\x00\x04\xFF\xFF\xFF\xFF", (15, 114)),
     ] {
         assert_eq!(refusal_of(bytes), Some(refusal), "{bytes:?}");
+    }
+}
+
+/// Whether the record is refused with this number at this byte of it: at the
+/// used length, before other bytes (2 aside) and behind other items.
+fn check_record(record: &[u8], number: u8, byte: usize) {
+    let header = book(&[]);
+    for before in [
+        &b""[..],
+        b"\x00",
+        b"\x02\x00\x80",
+        b"\x04\x01\x02a:\x02\x02\x80",
+        &header,
+    ] {
+        for behind in [&b""[..], b"\x00", b"\x05", b"\x80", b"\xFF\xFF\xFF\xFF"] {
+            if number != 2 || behind.is_empty() {
+                let bytes = [before, record, behind].concat();
+                let refusal = (number, 109 + before.len() + byte);
+                assert_eq!(refusal_of(&bytes), Some(refusal), "{bytes:X?}");
+            }
+        }
+    }
+}
+
+#[test]
+fn broken_sizes() {
+    for (size, number, byte) in [
+        (&b"\x80"[..], 14, 0), // alone too, and before 15
+        (b"\x80\x01", 14, 0),
+        (b"\x80\x81", 14, 0),
+        (b"\x80\x80\x80\x80", 14, 0),
+        (b"\x80\xFF\xFF\xFF\xFF", 14, 0),
+        (b"\x81", 2, 0), // not over at the used length, the record's start
+        (b"\xFF", 2, 0),
+        (b"\x81\x80", 2, 0),
+        (b"\xFF\xFF", 2, 0),
+        (b"\x81\x80\x80", 2, 0),
+        (b"\xFF\xFF\xFF", 2, 0),
+        (b"\x81\x80\x80\x80", 15, 3), // the fourth byte, the last used one too
+        (b"\xFF\xFF\xFF\xFF", 15, 3),
+        (b"\xFF\xFF\xFF\x80\x00", 15, 3),
+        (b"\x81\x80\x80\x80\x80\x80\x80\x80\x01", 15, 3),
+        (b"\x81\x80\x80\x00", 2, 0), // over at the fourth byte
+        (b"\xFF\xFF\xFF\x7F", 2, 0),
+    ] {
+        check_record(size, number, byte);
+    }
+}
+
+#[test]
+fn bytes_past_the_used_length_are_not_looked_at() {
+    // The bytes at 109, and the refusals at the used lengths 110, 111 and so on.
+    type Case<'a> = (&'a [u8], &'a [(u8, usize)]);
+    let cases: [Case; 6] = [
+        (b"\x80\x80", &[(14, 109), (14, 109)]),
+        (b"\x81\x00", &[(2, 109), (2, 109)]),
+        (
+            &[0xFF; 5],
+            &[(2, 109), (2, 109), (2, 109), (15, 112), (15, 112)],
+        ),
+        (b"\x02\x80\x80", &[(2, 109), (2, 109), (14, 110)]),
+        (
+            b"\x03\xFF\xFF\xFF\xFF",
+            &[(2, 109), (2, 109), (2, 109), (16, 112)],
+        ),
+        (
+            b"\x04\xFF\xFF\xFF\xFF",
+            &[(2, 109), (2, 109), (2, 109), (2, 109), (15, 113)],
+        ),
+    ];
+    for (bytes, refusals) in cases {
+        let log = book(&[bytes]);
+        let (_, reading) = Reading::fresh().step(&log, 109);
+        for (used, &(number, place)) in (110..).zip(refusals) {
+            let answer = (refused(number, place), reading.clone());
+            assert_eq!(reading.step(&log, used), answer, "{bytes:X?} {used}");
+            let walked = append(&mut log.clone(), used, b"a:", b"");
+            assert_eq!(walked, refused(number, place));
+        }
+    }
+}
+
+#[test]
+fn broken_types() {
+    for (record, number, byte) in [
+        (&b"\x01\x80"[..], 14, 1), // alone too, and before 16 and 15
+        (b"\x02\x80\x00", 14, 1),
+        (b"\x02\x80\x81", 14, 1),
+        (b"\x03\x80\x80\x80", 14, 1),
+        (b"\x04\x80\xFF\xFF\xFF", 14, 1),
+        (b"\x05\x80\x80\x80\x80\x01", 14, 1),
+        (b"\x01\x81", 16, 1), // not over at the record's last byte
+        (b"\x01\xFF", 16, 1),
+        (b"\x02\x81\x80", 16, 2),
+        (b"\x02\xFF\xFF", 16, 2),
+        (b"\x03\x81\x80\x80", 16, 3),
+        (b"\x03\xFF\xFF\xFF", 16, 3),
+        (b"\x04\x81\x80\x80\x80", 15, 4), // the fourth byte, before 16
+        (b"\x04\xFF\xFF\xFF\xFF", 15, 4),
+        (b"\x05\xFF\xFF\xFF\x80\x00", 15, 4),
+        (b"\x06\xFF\xFF\xFF\xFF\xFF\xFF", 15, 4),
+        (b"\x02\x81\x00", 6, 0), // over at the record's last byte
+        (b"\x03\x81\x80\x00", 6, 0),
+        (b"\x04\x81\x80\x80\x00", 6, 0),
+        (b"\x04\xFF\xFF\xFF\x7F", 6, 0),
+        (b"\x02\x80", 2, 0), // incomplete before the type is looked at
+        (b"\x02\x81", 2, 0),
+        (b"\x04\xFF\xFF\xFF", 2, 0),
+        (b"\x05\xFF\xFF\xFF\xFF", 2, 0),
+        (b"\x81\x00\x80", 2, 0),
+    ] {
+        check_record(record, number, byte);
+    }
+    // Behind sizes of one to four bytes.
+    for (size, length) in [
+        (&b"\x05"[..], 5),
+        (b"\x7F", 127),
+        (b"\x81\x00", 128),
+        (b"\xFF\x7F", 16_383),
+        (b"\x81\x80\x00", 16_384),
+        (b"\x81\x80\x80\x00", 2_097_152),
+    ] {
+        for (start, number, byte) in [
+            (&b"\x80"[..], 14, size.len()),
+            (b"\x80\xFF\xFF\xFF", 14, size.len()),
+            (b"\x81\x80\x80\x80", 15, size.len() + 3),
+            (b"\xFF\xFF\xFF\xFF\x80", 15, size.len() + 3),
+            (b"\xFF\xFF\xFF\x7F", 6, 0),
+        ] {
+            let mut record = [size, start, &vec![0; length - start.len()]].concat();
+            assert_eq!(refusal_of(&record), Some((number, 109 + byte)));
+            record.pop();
+            assert_eq!(refusal_of(&record), Some((2, 109)));
+        }
+    }
+}
+
+#[test]
+fn broken_assigned_numbers() {
+    // 5 at the record's start, whatever is wrong with the number.
+    for data in [
+        &b"\x80"[..],
+        b"\x80\x02a:",
+        b"\x80\xFF\xFF\xFFa:",
+        b"\x81",
+        b"\xFF\xFF",
+        b"\xFF\xFF\xFF",
+        b"\x81\x80\x80\x80",
+        b"\xFF\xFF\xFF\xFF",
+        b"\xFF\xFF\xFF\xFF\x7Fa:",
+    ] {
+        let size = data.len() as u8;
+        check_record(&[&[size + 1, 1], data].concat(), 5, 0);
+        // Under 128 too, which takes two bytes.
+        let long = &b"\x13\x01\x81\x00urn:lozizol:type"[..];
+        let bytes = [long, &[size + 2, 0x81, 0x00], data].concat();
+        assert_eq!(refusal_of(&bytes), Some((5, 129)), "{data:X?}");
+        // The data of other records is not looked at.
+        let plain = [&b"\x04\x01\x02a:"[..], &[size + 1, 2], data];
+        assert_eq!(refusal_of(&plain.concat()), None);
+        let deleted = [&[size + 1, 0], data];
+        assert_eq!(refusal_of(&deleted.concat()), None);
+    }
+    // A broken size or type comes first.
+    check_record(b"\x03\x80\x01\x80", 14, 1);
+    check_record(b"\x05\xFF\xFF\xFF\xFF\x80", 15, 4);
+}
+
+#[test]
+fn each_call_says_what_is_broken() {
+    for (record, number, place) in [
+        (&b"\x80"[..], 14, 119),
+        (b"\xFF\xFF\xFF\xFF", 15, 122),
+        (b"\x01\x80", 14, 120),
+        (b"\x06\xFF\xFF\xFF\xFF\x01\x01", 15, 123),
+        (b"\x81\x00\x80", 2, 119), // only once the record is complete
+        (b"\x03\x81\x82\x83", 16, 122),
+    ] {
+        // An assignment, an entry, a deleted record; no room is left (12).
+        let log = book(&[b"\x04\x01\x02a:", b"\x02\x02P", b"\x01\x00", record]);
+        let (mut buf, used) = (log.clone(), log.len());
+        let says = Refusal { number, place };
+        let mut reading = items(&log).1;
+        assert_eq!((reading.position, reading.count), (119, 3));
+        assert_eq!(
+            reading.step(&log, used),
+            (Err(says), reading.clone()),
+            "{record:X?}"
+        );
+        for uri in [&b"a:"[..], b"b:"] {
+            assert_eq!(append(&mut buf, used, uri, b"Q"), Err(says));
+            assert_eq!(assign(&mut buf, used, 3, uri), Err(says));
+        }
+        assert_eq!(assign(&mut buf, used, 2, b""), Err(says));
+        for asked in [119, 120, place, used - 1, used, usize::MAX] {
+            assert_eq!(erase(&mut buf, used, asked), Err(says));
+            assert_eq!(wipe(&mut buf, used, asked, 0), Err(says));
+            assert_eq!(wipe(&mut buf, used, asked, 9), Err(says));
+        }
+        let lines = format!(
+            "0\t1\turn:lozizol:header\t107\n109\t2\turn:lozizol:type\t3\n\
+             114\t3\ta:\t1\nrefused\t{number}\t{place}\n"
+        );
+        assert_eq!(text(&log), lines);
+
+        // 1, 13 and 10 come first.
+        assert_eq!(erase(&mut buf, used + 1, 119), refused(1, 0));
+        assert_eq!(append(&mut buf, used, b"", b""), refused(10, 0));
+        assert_eq!(assign(&mut buf, used, 0, b""), refused(10, 0));
+        reading.count = 120;
+        assert_eq!(reading.step(&log, used), (refused(13, 0), reading));
+        assert_eq!(buf, log);
+
+        // A call whose walk ends before the record doesn't look at it.
+        assert_eq!(erase(&mut buf, used, 118), refused(8, 118));
+        assert_eq!(wipe(&mut buf, used, 117, 1), Ok(1));
+        assert_eq!(erase(&mut buf, used, 114), Ok(115));
+
+        // 11 and 7 for the request come after.
+        assert_eq!(
+            refusal_of(&[b"\x02\x01\x01\x05\x00\x00\x00\x00\x00\x00", record].concat()),
+            Some((number, place))
+        );
+        assert_eq!(
+            refusal_of(&[&many(2, 30), record].concat()),
+            Some((number, place + 140))
+        );
+    }
+    // At place 0 only 2 and 3 are known.
+    for byte in [0x80, 0xFF] {
+        assert_eq!(text(&[byte; 108]), "refused\t2\t0\n");
+        assert_eq!(text(&[byte; 109]), "refused\t3\t0\n");
+    }
+    // A reading from outside may stand inside a record.
+    let log = book(&[b"\x09\x00\x80\xFF\xFF\xFF\xFF\x02\xFF\xFF"]);
+    for (position, number, place) in [
+        (111, 14, 111),
+        (112, 15, 115),
+        (113, 2, 113),
+        (116, 16, 118),
+        (117, 2, 117),
+    ] {
+        let mut reading = Reading::fresh();
+        reading.position = position;
+        let answer = (refused(number, place), reading.clone());
+        assert_eq!(reading.step(&log, log.len()), answer);
     }
 }
 
@@ -612,6 +855,24 @@ fn random_calls_keep_the_demands() {
     }
 }
 
+/// Whether 14, 15 and 16 name a byte that can be the one at fault.
+fn check_byte(buf: &[u8], Refusal { number, place }: Refusal) {
+    match number {
+        14 => assert_eq!(buf[place], 0x80),
+        15 => {
+            assert_ne!(buf[place - 3], 0x80);
+            assert!(buf[place - 3..=place].iter().all(|&byte| byte >= 0x80));
+        }
+        16 => {
+            let size = (1..4).find(|&size| usize::from(buf[place - size]) == size);
+            let body = &buf[place + 1 - size.unwrap()..=place];
+            assert_ne!(body[0], 0x80);
+            assert!(body.iter().all(|&byte| byte >= 0x80));
+        }
+        _ => {}
+    }
+}
+
 #[test]
 fn any_bytes_and_any_reading_end_in_an_answer() {
     let mut random = Random(0xD1B5_4A32_D192_ED03);
@@ -619,7 +880,7 @@ fn any_bytes_and_any_reading_end_in_an_answer() {
         0, 0, 0, 0, 1, 1, 2, 3, 4, 5, 0x6F, 0x7F, 0x80, 0x81, 0xFF, b'a', b':',
     ];
     let odd = [0, 1, 2, 110, 125, 255, 256, u32::MAX, u32::MAX - 1];
-    let mut seen = [0; 14];
+    let mut seen = [0; 17];
     for _ in 0..60_000 {
         let tail: Vec<u8> = (0..16).map(|_| random.pick(&bytes)).collect();
         let mut buf = book(&[&tail]);
@@ -640,6 +901,7 @@ fn any_bytes_and_any_reading_end_in_an_answer() {
             Ok(_) => assert!(next.position > reading.position && next.position <= used),
             Err(refusal) => {
                 assert_eq!(next, reading);
+                check_byte(&buf, refusal);
                 seen[usize::from(refusal.number)] += 1;
             }
         }
@@ -651,13 +913,15 @@ fn any_bytes_and_any_reading_end_in_an_answer() {
             erase(&mut buf, used, place).err(),
             wipe(&mut buf, used, place, 2).err(),
         ];
-        for refusal in refusals.iter().flatten() {
+        for &refusal in refusals.iter().flatten() {
+            check_byte(&before, refusal);
             seen[usize::from(refusal.number)] += 1;
         }
         assert!(refusals.contains(&None) || buf == before);
         listing(&buf);
     }
-    for number in [1, 2, 3, 4, 5, 6, 8, 9, 12, 13] {
+    for number in [1, 2, 3, 5, 6, 8, 9, 12, 13, 14, 15, 16] {
         assert!(seen[number] > 0, "{number}");
     }
+    assert_eq!(seen[4], 0); // withdrawn
 }

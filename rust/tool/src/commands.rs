@@ -143,8 +143,8 @@ such records, `end` and the used length: a line each, with a TAB between.
         details: "\
 Writes for each record its place, its number and the URI in force there, and a row for each of its
 parts: the place, the part's name, up to 16 bytes in hexadecimal, and what they say. Of padding only
-the number of bytes is written. Where the logbook is refused, ^^ is below the byte at the refusal's
-place, and nothing behind is shown.
+the number of bytes is written. Where the logbook is refused, the record's first bytes are shown with
+^^ below the byte at the refusal's place, and nothing behind.
 ",
         is_change: false,
         options: &[],

@@ -27,7 +27,8 @@ struct Dump<'d> {
 
 impl Dump<'_> {
     fn items(&mut self) -> io::Result<Option<Refusal>> {
-        for item in logbook::items(self.bytes) {
+        let mut items = logbook::items(self.bytes);
+        while let Some(item) = items.next() {
             match item {
                 Ok(Item::Padding { place }) => {
                     let (first, length) = self.padding.unwrap_or((place, 0));
@@ -40,7 +41,7 @@ impl Dump<'_> {
                 }) => self.deleted(place, body_place, body)?,
                 Ok(Item::Entry(entry)) => self.entry(&entry)?,
                 Err(refusal) => {
-                    self.refusal(&refusal)?;
+                    self.refusal(&refusal, items.reading().position())?;
                     return Ok(Some(refusal));
                 }
             }
@@ -122,18 +123,26 @@ impl Dump<'_> {
         writeln!(self.out, "{place:>10}  {name:<6}  {hexadecimal:<48} {text}")
     }
 
-    /// Points at the byte at a refusal's place, where it has one and a byte stands there.
-    fn refusal(&mut self, refusal: &Refusal) -> io::Result<()> {
+    /// The front of the record at `start`, with a pointer at the byte at the refusal's place, where
+    /// the refusal has one and a byte stands there.
+    fn refusal(&mut self, refusal: &Refusal, start: Place) -> io::Result<()> {
         let Some(place) = refusal.place() else {
             return Ok(());
         };
-        self.heading(place, &format!("refusal {}", refusal.number()))?;
-        let rest = self.bytes.get(place.0..).unwrap_or_default();
-        if rest.is_empty() {
-            return Ok(());
+        let mut named = format!("refusal {}", refusal.number());
+        if place != start {
+            named += &format!(" at place {place}");
         }
-        self.part("", place, &rest[..ROW.min(rest.len())])?;
-        writeln!(self.out, "{:>22}", "^^")
+        self.heading(start, &named)?;
+        let record = self.bytes.get(start.0..).unwrap_or_default();
+        let row = &record[..ROW.min(record.len())];
+        self.part("", start, row)?;
+        match place.0.checked_sub(start.0) {
+            Some(before) if before < row.len() => {
+                writeln!(self.out, "{:>width$}", "^^", width = 22 + 3 * before)
+            }
+            _ => Ok(()),
+        }
     }
 }
 

@@ -94,12 +94,32 @@ fn refusals_point_at_their_byte() {
     let shown = shown_behind(&folder, b"\0\x80\x11");
     let expected = "\
 145: padding, 1 byte
-146: refusal 4
+146: refusal 14
        146          80 11                                            |..|
                     ^^
 ";
-    let sentence = "logbook: refusal 4 at place 146: the record that starts there has a broken \
-                    integer, or a type that goes past its size\n";
+    let sentence = "logbook: refusal 14 at place 146: the byte there is 80 and begins a size or \
+                    a type, and none begins with 80\n";
+    assert_eq!(shown, (1, expected.into(), sentence.into()));
+
+    let shown = shown_behind(&folder, b"\x04\xff\xff\xff\xffbehind");
+    let expected = "\
+145: refusal 15 at place 149
+       145          04 ff ff ff ff 62 65 68 69 6e 64                 |.....behind|
+                                ^^
+";
+    let sentence = "logbook: refusal 15 at place 149: the byte there is the fourth of a size or \
+                    a type, the last one allowed, and it says that another follows\n";
+    assert_eq!(shown, (1, expected.into(), sentence.into()));
+
+    let shown = shown_behind(&folder, b"\x02\x81\x82");
+    let expected = "\
+145: refusal 16 at place 147
+       145          02 81 82                                         |...|
+                          ^^
+";
+    let sentence = "logbook: refusal 16 at place 147: the byte there is the last one of its \
+                    record, and it says that the record's type goes on\n";
     assert_eq!(shown, (1, expected.into(), sentence.into()));
 
     let (status, shown, _) = shown_behind(&folder, b"\x14\x63A refused record, longer than a row");

@@ -6,21 +6,24 @@ use mathlib.Core.Logic.{_↔_}
 use mathlib.Core.Option.{Option, none, some}
 use Prim.Native.Nat.{ℕ, zero, suc, pred, _+_}
 use native.Mathlib.Omega.{arith}
+use native.Mathlib.Nat.{add-zero}
 use borrow.Author.Tests.{lt-ltb, le-ltb, le-leb, lt-leb, leb-true, ne-eqb}
 use lib.ListN.{length, take, drop}
 use lib.Dec.{leb, ltb, eqb}
-use Rattle.format.specs.Laws.Cases.{by-test, by-order, from-zero-one, and-left, and-right, and-false}
+use lib.Seq.{length-take-le}
+use Rattle.format.specs.Laws.Cases.{by-test, by-order, from-zero-one, and-false}
 use Rattle.format.specs.Bytes.{same}
 use Rattle.format.specs.Laws.Bytes.{same-equal}
 use Rattle.format.specs.Text.{ascii}
-use Rattle.format.specs.Figures.{rowLimit, headerLength}
+use Rattle.format.specs.Figures.{integerBytes, rowLimit, headerLength}
 use Rattle.format.specs.Integers.{Integer, value, broken, notOver}
 use Rattle.format.specs.Uris.{typeName, headerName}
 use Rattle.format.specs.Header.{headerForm}
 use Rattle.format.specs.Register.{isHeld, find, hasRoom, Named, Names, namedNumber, namedUri, uriOf}
 use Rattle.format.specs.Laws.Register.{some-some}
 use Rattle.format.specs.Records.{Refusal, roomFor, assignable, assignmentPart, headerPart, dataPart, namedPart, typePart, sizePart, element, headerAt, Origin, atHeader, item}
-use Rattle.format.specs.Refusals.{Rule, rule, firstOf, NoneDue, FirstDue, due, InTable, isFaulty, sizeAt, recordAt, bodyAt, typeAt, dataAt, assignedNumber, assignedUri, uriAt, isNamed, isIncomplete, isBroken, notHeld, notForm, badAssignment, isTooMany, noRoom, recordRules, headerRules, elementRules, itemRules, refusalOfGot}
+use Rattle.format.specs.Refusals.{Rule, rule, firstOf, NoneDue, FirstDue, due, standing, isAmong, InTable, sizeAt, recordAt, bodyAt, typeAt, dataAt, assignedNumber, assignedUri, uriAt, isNamed, isIncomplete, leadsWith80, isTooLong, isPastSize, typePlace, lastPlace, notHeld, notForm, badAssignment, isTooMany, noRoom, integerRules, meaningRules, recordRules, headerRules, elementRules, itemRules, refusalOfGot}
+use Rattle.format.specs.Laws.Denials.Integers.{ByTests, leading, long, short, over, read-tests}
 
 -- ---- the first rule
 pub first-on : (r : Rule) (rs : List Rule) → r .when ≡ false → firstOf (r ∷ rs) ≡ firstOf rs
@@ -105,65 +108,77 @@ header-other u e = rw (same-equal u headerName e)
 
 -- ---- a record l at p, stage by stage from the last: at each, the rules of the stages before it aren't due
 module _ (g : Names) (p : ℕ) (l : List ℕ) where
-  -- 2 and 4 aren't due
-  abbrev Passed : Type 0
-  Passed = (isIncomplete l ≡ false) × (isBroken l ≡ false)
-
-  number-stage : (y : Named) (t q n : ℕ) → Passed → notHeld g l ≡ false → notForm g l ≡ false → isNamed typeName (uriAt g l) ≡ true → (v : Integer) → assignedNumber l ≡ v
-      → refusalOfGot (assignmentPart v y p t q (dataAt l) n g) ≡ firstOf (recordRules g p l)
-  unfolding firstOf recordRules assignmentPart badAssignment noRoom assignedUri
-  number-stage y t q n (a, b) c d e notOver f = rw (a, b, c, d, e, f)
-  number-stage y t q n (a, b) c d e (broken why at) f = rw (a, b, c, d, e, f)
-  number-stage y t q n (a, b) c d e (value zero m) f = rw (a, b, c, d, e, f)
-  number-stage y t q n (a, b) c d e (value (suc k) m) f =
+  number-stage : (y : Named) (t q n : ℕ) → notHeld g l ≡ false → notForm g l ≡ false → isNamed typeName (uriAt g l) ≡ true
+      → (v : Integer) → assignedNumber l ≡ v
+      → refusalOfGot (assignmentPart v y p t q (dataAt l) n g) ≡ firstOf (meaningRules g p l)
+  unfolding firstOf meaningRules assignmentPart badAssignment noRoom assignedUri
+  number-stage y t q n c d e notOver f = rw (c, d, e, f)
+  number-stage y t q n c d e (broken why at) f = rw (c, d, e, f)
+  number-stage y t q n c d e (value zero m) f = rw (c, d, e, f)
+  number-stage y t q n c d e (value (suc k) m) f =
       by-test (assignable (suc k) (drop m (dataAt l)))
       (λ h. by-test (roomFor (suc k) (drop m (dataAt l)) g)
-      (λ r. rw (a, b, c, d, e, f, positive k, h, too-many (suc k) (drop m (dataAt l)) g, r))
-      (λ r. rw (a, b, c, d, e, f, positive k, h, too-many (suc k) (drop m (dataAt l)) g, r)))
-      (λ h. rw (a, b, c, d, e, f, positive k, h))
+      (λ r. rw (c, d, e, f, positive k, h, too-many (suc k) (drop m (dataAt l)) g, r))
+      (λ r. rw (c, d, e, f, positive k, h, too-many (suc k) (drop m (dataAt l)) g, r)))
+      (λ h. rw (c, d, e, f, positive k, h))
 
-  uri-stage : (t q n : ℕ) → Passed → notHeld g l ≡ false → (y : Named) → uriAt g l ≡ some (namedUri y)
-      → refusalOfGot (dataPart y p t q (recordAt l) (dataAt l) n g) ≡ firstOf (recordRules g p l)
-  unfolding firstOf recordRules dataPart headerPart notForm badAssignment noRoom assignedNumber
-  uri-stage t q n (a, b) c y e =
+  uri-stage : (t q n : ℕ) → notHeld g l ≡ false → (y : Named) → uriAt g l ≡ some (namedUri y)
+      → refusalOfGot (dataPart y p t q (recordAt l) (dataAt l) n g) ≡ firstOf (meaningRules g p l)
+  unfolding firstOf meaningRules dataPart headerPart notForm badAssignment noRoom assignedNumber
+  uri-stage t q n c y e =
       by-test (same (namedUri y) headerName)
       (λ h. by-test (headerForm (recordAt l))
-      (λ f. rw (a, b, c, e, h, header-other (namedUri y) h, f))
-      (λ f. rw (a, b, c, e, h, f)))
+      (λ f. rw (c, e, h, header-other (namedUri y) h, f))
+      (λ f. rw (c, e, h, f)))
       (λ h. by-test (same (namedUri y) typeName)
-      (λ f. rw (h, f) (number-stage y t q n (a, b) c (rw (e, h)) (rw (e, f)) (assignedNumber l) refl))
-      (λ f. rw (a, b, c, e, h, f)))
+      (λ f. rw (h, f) (number-stage y t q n c (rw (e, h)) (rw (e, f)) (assignedNumber l) refl))
+      (λ f. rw (c, e, h, f)))
 
-  type-stage : (k n : ℕ) → isIncomplete l ≡ false → isFaulty (sizeAt l) ≡ false → (v : Integer) → typeAt l ≡ v
-      → refusalOfGot (typePart v p k (recordAt l) (bodyAt l) n g) ≡ firstOf (recordRules g p l)
-  unfolding firstOf recordRules typePart isBroken notHeld notForm badAssignment noRoom uriAt uriOf namedPart dataAt
-  type-stage k n a b notOver e = rw (a, b, e)
-  type-stage k n a b (broken why at) e = rw (a, b, e)
-  type-stage k n a b (value zero j) e = rw (a, b, e)
-  type-stage k n a b (value (suc m) j) e = go (find namedNumber (suc m) g) refl
+  -- a type that is there
+  meaning-stage : (k n a j : ℕ) → typeAt l ≡ value a j
+      → refusalOfGot (typePart (value a j) p k (recordAt l) (bodyAt l) n g) ≡ firstOf (meaningRules g p l)
+  unfolding firstOf meaningRules typePart notHeld notForm badAssignment noRoom uriAt uriOf namedPart dataAt
+  meaning-stage k n zero j e = rw e
+  meaning-stage k n (suc m) j e = go (find namedNumber (suc m) g) refl
     where
-      go : (x : Option Named) → find namedNumber (suc m) g ≡ x → refusalOfGot (namedPart x p (p + k) j (recordAt l) (bodyAt l) n g) ≡ firstOf (recordRules g p l)
-      go none q = rw (a, b, e, positive m, q)
+      go : (x : Option Named) → find namedNumber (suc m) g ≡ x
+          → refusalOfGot (namedPart x p (p + k) j (recordAt l) (bodyAt l) n g) ≡ firstOf (meaningRules g p l)
+      go none q = rw (e, positive m, q)
       go (some u) q =
           let d : dataAt l ≡ drop j (bodyAt l) = rw e in
-          rw (← d) (uri-stage (p + k) (p + k + j) n (a, rw (b, e)) (rw (e, positive m, q)) u (rw (e, q)))
+          rw (← d) (uri-stage (p + k) (p + k + j) n (rw (e, positive m, q)) u (rw (e, q)))
 
-  size-stage : (v : Integer) → sizeAt l ≡ v → refusalOfGot (sizePart v p l g) ≡ firstOf (recordRules g p l)
-  unfolding firstOf recordRules sizePart isIncomplete isBroken recordAt bodyAt typeAt
-  size-stage notOver e = rw e
-  size-stage (broken why at) e = rw (e, le-ltb (length l) 0 (omega arith))
-  size-stage (value s k) e =
+  -- a record that is whole: its size takes k bytes, and its last byte is n behind the first
+  type-stage : (s k n : ℕ) → isIncomplete l ≡ false → leadsWith80 l ≡ false → isTooLong l ≡ false → sizeAt l ≡ value s k
+      → pred (length (recordAt l)) ≡ n → (v : Integer) → typeAt l ≡ v → ByTests integerBytes (bodyAt l) v
+      → refusalOfGot (typePart v p k (recordAt l) (bodyAt l) n g) ≡ firstOf (recordRules g p l)
+  unfolding firstOf recordRules integerRules typePart isTooLong isPastSize typePlace lastPlace
+  type-stage s k n a b c d f v e (leading t) = rw (a, b, c, d, t, add-zero)
+  type-stage s k n a b c d f v e (long t u) = rw (a, b, c, d, t, u)
+  type-stage s k n a b c d f v e (short t u w) = rw (a, b, c, t, u, w, f)
+  type-stage s k n a b c d f v e (over x j t u w) = rw (a, b, c, t, u, w) (meaning-stage k n x j e)
+
+  size-stage : (v : Integer) → sizeAt l ≡ v → ByTests integerBytes l v → refusalOfGot (sizePart v p l g) ≡ firstOf (recordRules g p l)
+  unfolding firstOf recordRules integerRules sizePart isIncomplete isTooLong recordAt bodyAt typeAt leadsWith80
+  size-stage v e (leading t) = rw (e, le-ltb (length l) 0 (omega arith), t, add-zero)
+  size-stage v e (long t u) = rw (e, le-ltb (length l) 0 (omega arith), t, u)
+  size-stage v e (short t u w) = rw e
+  size-stage v e (over s k t u w) =
       by-test (leb (k + s) (length l))
       (λ h.
       let w : recordAt l ≡ take (k + s) l = rw e in
       let b : bodyAt l ≡ take s (drop k l) = rw e in
-      rw (h, ← w, ← b) (type-stage k (pred (k + s)) (rw (e, over-not (k + s) (length l), h)) (rw e) (typeAt l) refl))
+      let n : length (recordAt l) ≡ k + s = ap length w ∙ length-take-le (k + s) l (leb-true (k + s) (length l) h) in
+      rw (h, ← w, ← b)
+      (type-stage s k (pred (k + s)) (rw (e, over-not (k + s) (length l), h)) t u e (ap pred n)
+      (typeAt l) refl (read-tests integerBytes (bodyAt l) (omega arith))))
       (λ h. rw (e, over-not (k + s) (length l), h))
 
-element-refusal : (g : Names) (p x : ℕ) (xs : List ℕ) → refusalOfGot (element g p x xs) ≡ firstOf (elementRules g p (x ∷ xs))
+pub element-refusal : (g : Names) (p x : ℕ) (xs : List ℕ)
+    → refusalOfGot (element g p x xs) ≡ firstOf (elementRules (x ∷ xs) (recordRules g p (x ∷ xs)))
 unfolding element elementRules firstOf sizeAt
 element-refusal g p zero xs = refl
-element-refusal g p (suc x) xs = size-stage g p (suc x ∷ xs) (sizeAt (suc x ∷ xs)) refl
+element-refusal g p (suc x) xs = size-stage g p (suc x ∷ xs) (sizeAt (suc x ∷ xs)) refl (read-tests integerBytes (suc x ∷ xs) (omega arith))
 
 header-refusal : (l : List ℕ) → refusalOfGot (headerAt l) ≡ firstOf (headerRules l)
 unfolding headerAt headerRules firstOf
@@ -194,31 +209,37 @@ pub numbered-rule : (r : Rule) (rs : List Rule) → (r .when ≡ true → InTabl
 unfolding Numbered
 numbered-rule r rs a n = (a, n)
 
-pub numbered : (n p : ℕ) (t : Bool) (rs : List Rule) → (leb 1 n && leb n 13) ≡ true → Numbered rs → Numbered (rule n p t ∷ rs)
-numbered n p t rs e =
-    numbered-rule (rule n p t) rs
-    (λ h. (leb-true 1 n (and-left (leb 1 n) (leb n 13) e), leb-true n 13 (and-right (leb 1 n) (leb n 13) e)))
+pub numbered : (n p : ℕ) (t : Bool) (rs : List Rule) → isAmong n standing ≡ true → Numbered rs → Numbered (rule n p t ∷ rs)
+numbered n p t rs e = numbered-rule (rule n p t) rs (λ h. e)
 
 pub numbered-none : Numbered []
 unfolding Numbered
 numbered-none = tt
 
-element-numbered : (g : Names) (p : ℕ) (l : List ℕ) → Numbered (elementRules g p l)
-unfolding elementRules recordRules
-element-numbered g p [] = numbered-none
-element-numbered g p (zero ∷ xs) = numbered-none
-element-numbered g p (suc x ∷ xs) =
-    numbered 2 p _ _ refl
-    (numbered 4 p _ _ refl
-    (numbered 6 p _ _ refl
-    (numbered 3 p _ _ refl
-    (numbered 5 p _ _ refl
-    (numbered 7 p _ _ refl
-    numbered-none)))))
+pub record-numbered : (g : Names) (p : ℕ) (l : List ℕ) → Numbered (recordRules g p l)
+unfolding recordRules integerRules meaningRules
+record-numbered g p l =
+    numbered 2 _ _ _ refl
+    (numbered 14 _ _ _ refl
+    (numbered 14 _ _ _ refl
+    (numbered 15 _ _ _ refl
+    (numbered 15 _ _ _ refl
+    (numbered 16 _ _ _ refl
+    (numbered 6 _ _ _ refl
+    (numbered 3 _ _ _ refl
+    (numbered 5 _ _ _ refl
+    (numbered 7 _ _ _ refl
+    numbered-none)))))))))
+
+pub element-numbered : (l : List ℕ) (rs : List Rule) → Numbered rs → Numbered (elementRules l rs)
+unfolding elementRules
+element-numbered [] rs n = numbered-none
+element-numbered (zero ∷ xs) rs n = numbered-none
+element-numbered (suc x ∷ xs) rs n = n
 
 pub item-numbered : (o : Origin) (g : Names) (p : ℕ) (l : List ℕ) → Numbered (itemRules o g p l)
 unfolding itemRules headerRules
 item-numbered o g p l =
     by-test (atHeader o p)
     (λ h. rw h (numbered 2 0 _ _ refl (numbered 3 0 _ _ refl numbered-none)))
-    (λ h. rw h (element-numbered g p l))
+    (λ h. rw h (element-numbered l (recordRules g p l) (record-numbered g p l)))

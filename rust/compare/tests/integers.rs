@@ -1,0 +1,198 @@
+//! 02 [1], "Say what is broken": sizes and types that are broken, cut off or too long, by every
+//! call that reads them.
+
+use compare::case::Case;
+use compare::pieces::HEADER_LENGTH;
+use compare::settings::spread;
+use compare::sides::Request;
+use compare::tally::{Tally, CALLS};
+use logbook::raw;
+
+/// Bytes that sizes and types are made of: padding, short ones, 80, others with the top bit set.
+const BYTES: [u8; 9] = [0x00, 0x01, 0x02, 0x03, 0x04, 0x05, 0x80, 0x81, 0xFF];
+/// The longest of the strings of them that are all compared.
+const LONGEST: usize = 6;
+
+/// A record behind a header: its bytes, and the number and the place that it is refused with.
+struct Named {
+    name: &'static str,
+    bytes: &'static [u8],
+    refusal: (usize, usize),
+}
+
+const fn named(name: &'static str, bytes: &'static [u8], number: usize, place: usize) -> Named {
+    let refusal = (number, place);
+    Named {
+        name,
+        bytes,
+        refusal,
+    }
+}
+
+/// Each fault alone, and wherever two could be given.
+const CASES: [Named; 24] = [
+    named("a size of 80", b"\x80\x11", 14, 109),
+    named("a size of 80 at the used length", b"\x80", 14, 109),
+    named(
+        "a size of 80 that is too long too",
+        b"\x80\xFF\xFF\xFF",
+        14,
+        109,
+    ),
+    named("a size of four top bits", b"\x81\x80\x80\x80\x00", 15, 112),
+    named("M10 at the used length", b"\xFF\xFF\xFF\xFF", 15, 112),
+    named("M9, a size that isn't over", b"\x81", 2, 109),
+    named("three top bits at the used length", b"\xFF\xFF\xFF", 2, 109),
+    named("a type of 80 that isn't there yet", b"\x05\x80", 2, 109),
+    named("a type that would be past its size", b"\x02\x81", 2, 109),
+    named("a type of 80", b"\x02\x80\x02", 14, 110),
+    named("a deleted record's 80", b"\x02\x80\x00", 14, 110),
+    named("14 before 16", b"\x01\x80", 14, 110),
+    named("14 before 15", b"\x04\x80\xFF\xFF\xFF", 14, 110),
+    named(
+        "a type of four top bits",
+        b"\x05\xFF\xFF\xFF\xFF\x01",
+        15,
+        113,
+    ),
+    named("15 before 16", b"\x04\xFF\xFF\xFF\xFF", 15, 113),
+    named("a type of one byte past its size", b"\x01\x81", 16, 110),
+    named("a type of two", b"\x02\x81\x80", 16, 111),
+    named("a type of three", b"\x03\xFF\xFF\xFF", 16, 112),
+    named(
+        "its fourth byte behind the record",
+        b"\x03\xFF\xFF\xFF\xFF",
+        16,
+        112,
+    ),
+    named("16 behind padding", b"\x00\x00\x01\x81", 16, 112),
+    named("an assigned number of 80", b"\x02\x01\x80", 5, 109),
+    named("one of four top bits", b"\x05\x01\xFF\xFF\xFF\xFF", 5, 109),
+    named("one that isn't over", b"\x02\x01\x81", 5, 109),
+    named("a sound type that isn't held", b"\x02\x81\x00", 6, 109),
+];
+
+/// A header, and these bytes behind it.
+fn behind_header(bytes: &[u8]) -> Vec<u8> {
+    let mut buf = vec![0; HEADER_LENGTH];
+    assert_eq!(raw::start(&mut buf, &[7; 16], &[0; 60]).refusal, 0);
+    buf.extend_from_slice(bytes);
+    buf
+}
+
+/// Asks every call that walks over what stands at a place of a buffer, with room behind it for an
+/// append; the step last.
+fn ask_all(name: String, bytes: &[u8], place: usize, tally: &mut Tally) -> Vec<(usize, usize)> {
+    let used = bytes.len();
+    let buf = [bytes, &[0xFF; 40]].concat();
+    let mut reading = raw::fresh();
+    while reading.position < place {
+        let step = raw::step(&buf, used, reading);
+        assert_eq!(step.item.refusal, 0, "{name}");
+        reading = step.reading;
+    }
+    let requests = [
+        Request::Append {
+            uri: b"a:".to_vec(),
+            data: b"x".to_vec(),
+        },
+        Request::Assign {
+            number: 2,
+            uri: Vec::new(),
+        },
+        Request::Erase { place },
+        Request::Wipe { place, limit: 1 },
+        Request::List { room: 320 },
+        Request::Step {
+            reading: Box::new(reading),
+        },
+    ];
+    let asked = requests.iter().map(|request| {
+        let mut case = Case::new(name.clone(), buf.clone(), used);
+        case.ask(used, request, tally).refusal()
+    });
+    asked.collect()
+}
+
+#[test]
+fn named_cases() {
+    let mut tally = Tally::default();
+    for Named {
+        name,
+        bytes,
+        refusal,
+    } in &CASES
+    {
+        let padding = bytes.iter().take_while(|&&byte| byte == 0).count();
+        let place = HEADER_LENGTH + padding;
+        let answers = ask_all(name.to_string(), &behind_header(bytes), place, &mut tally);
+        assert_eq!(answers, [*refusal; 6], "{name}");
+    }
+    for (call, name) in CALLS.iter().enumerate().skip(1) {
+        for number in [14, 15, 16] {
+            assert!(tally.of(call, number) > 0, "{name} never gave {number}");
+        }
+    }
+}
+
+/// A type behind a size of two to four bytes is told by its own place.
+#[test]
+fn types_behind_longer_sizes() {
+    let mut tally = Tally::default();
+    let sizes: [(&[u8], usize); 3] = [
+        (b"\x81\x00", 128),
+        (b"\x81\x80\x00", 16_384),
+        (b"\x81\x80\x80\x00", 2_097_152),
+    ];
+    for (size, length) in sizes {
+        for (kind, number, offset) in [(&b"\x80"[..], 14, 0), (b"\xFF\xFF\xFF\xFF", 15, 3)] {
+            let mut bytes = behind_header(&[size, kind].concat());
+            bytes.resize(HEADER_LENGTH + size.len() + length, 0);
+            let place = HEADER_LENGTH + size.len() + offset;
+            let mut expected = [(number, place); 6];
+            if bytes.len() > 65_536 {
+                // A listing of so long a file is refused by 1.
+                expected[4] = (1, 0);
+            }
+            let answers = ask_all(format!("{size:x?}"), &bytes, HEADER_LENGTH, &mut tally);
+            assert_eq!(answers, expected, "{size:x?} {kind:x?}");
+        }
+    }
+}
+
+/// The string of this number in the order by length, then by [`BYTES`]'s order.
+fn string(length: usize, mut number: usize) -> Vec<u8> {
+    let digits = (0..length).map(|_| {
+        let byte = BYTES[number % BYTES.len()];
+        number /= BYTES.len();
+        byte
+    });
+    digits.collect()
+}
+
+#[test]
+fn every_short_string_agrees() {
+    let mut tally = Tally::default();
+    for length in 1..=LONGEST {
+        tally.join(spread(
+            BYTES.len().pow(length as u32),
+            |number, tally| {
+                let bytes = behind_header(&string(length, number));
+                ask_all(
+                    format!("{number} of {length}"),
+                    &bytes,
+                    HEADER_LENGTH,
+                    tally,
+                );
+            },
+            Tally::join,
+        ));
+    }
+    println!("{} calls compared\n{tally}", tally.calls());
+    for (call, name) in CALLS.iter().enumerate().skip(1) {
+        for number in [0, 2, 5, 6, 14, 15, 16] {
+            let can = number > 0 || !matches!(*name, "erase");
+            assert_eq!(tally.of(call, number) > 0, can, "{name}: {number}");
+        }
+    }
+}
