@@ -13,63 +13,35 @@ const BYTES: [u8; 9] = [0x00, 0x01, 0x02, 0x03, 0x04, 0x05, 0x80, 0x81, 0xFF];
 /// The longest of the strings of them that are all compared.
 const LONGEST: usize = 6;
 
-/// A record behind a header: its bytes, and the number and the place that it is refused with.
-struct Named {
-    name: &'static str,
-    bytes: &'static [u8],
-    refusal: (usize, usize),
-}
-
-const fn named(name: &'static str, bytes: &'static [u8], number: usize, place: usize) -> Named {
-    let refusal = (number, place);
-    Named {
-        name,
-        bytes,
-        refusal,
-    }
-}
+/// A record's name, its bytes behind a header, and the number and place that it is refused with.
+type Named = (&'static str, &'static [u8], usize, usize);
 
 /// Each fault alone, and wherever two could be given.
 const CASES: [Named; 24] = [
-    named("a size of 80", b"\x80\x11", 14, 109),
-    named("a size of 80 at the used length", b"\x80", 14, 109),
-    named(
-        "a size of 80 that is too long too",
-        b"\x80\xFF\xFF\xFF",
-        14,
-        109,
-    ),
-    named("a size of four top bits", b"\x81\x80\x80\x80\x00", 15, 112),
-    named("M10 at the used length", b"\xFF\xFF\xFF\xFF", 15, 112),
-    named("M9, a size that isn't over", b"\x81", 2, 109),
-    named("three top bits at the used length", b"\xFF\xFF\xFF", 2, 109),
-    named("a type of 80 that isn't there yet", b"\x05\x80", 2, 109),
-    named("a type that would be past its size", b"\x02\x81", 2, 109),
-    named("a type of 80", b"\x02\x80\x02", 14, 110),
-    named("a deleted record's 80", b"\x02\x80\x00", 14, 110),
-    named("14 before 16", b"\x01\x80", 14, 110),
-    named("14 before 15", b"\x04\x80\xFF\xFF\xFF", 14, 110),
-    named(
-        "a type of four top bits",
-        b"\x05\xFF\xFF\xFF\xFF\x01",
-        15,
-        113,
-    ),
-    named("15 before 16", b"\x04\xFF\xFF\xFF\xFF", 15, 113),
-    named("a type of one byte past its size", b"\x01\x81", 16, 110),
-    named("a type of two", b"\x02\x81\x80", 16, 111),
-    named("a type of three", b"\x03\xFF\xFF\xFF", 16, 112),
-    named(
-        "its fourth byte behind the record",
-        b"\x03\xFF\xFF\xFF\xFF",
-        16,
-        112,
-    ),
-    named("16 behind padding", b"\x00\x00\x01\x81", 16, 112),
-    named("an assigned number of 80", b"\x02\x01\x80", 5, 109),
-    named("one of four top bits", b"\x05\x01\xFF\xFF\xFF\xFF", 5, 109),
-    named("one that isn't over", b"\x02\x01\x81", 5, 109),
-    named("a sound type that isn't held", b"\x02\x81\x00", 6, 109),
+    ("a size of 80", b"\x80\x11", 14, 109),
+    ("a size of 80 at the used length", b"\x80", 14, 109),
+    ("14 before 15 of a size", b"\x80\xFF\xFF\xFF", 14, 109),
+    ("a size of four top bits", b"\x81\x80\x80\x80\x00", 15, 112),
+    ("M10 at the used length", b"\xFF\xFF\xFF\xFF", 15, 112),
+    ("M9, a size that isn't over", b"\x81", 2, 109),
+    ("a size of three top bits", b"\xFF\xFF\xFF", 2, 109),
+    ("a type of 80, 2 before it", b"\x05\x80", 2, 109),
+    ("a type cut off, 2 before it", b"\x02\x81", 2, 109),
+    ("a type of 80", b"\x02\x80\x02", 14, 110),
+    ("a type of 80 00", b"\x02\x80\x00", 14, 110),
+    ("14 before 16", b"\x01\x80", 14, 110),
+    ("14 before 15", b"\x04\x80\xFF\xFF\xFF", 14, 110),
+    ("four top bits", b"\x05\xFF\xFF\xFF\xFF\x01", 15, 113),
+    ("15 before 16", b"\x04\xFF\xFF\xFF\xFF", 15, 113),
+    ("a type of one byte past its size", b"\x01\x81", 16, 110),
+    ("a type of two", b"\x02\x81\x80", 16, 111),
+    ("a type of three", b"\x03\xFF\xFF\xFF", 16, 112),
+    ("a fourth behind it", b"\x03\xFF\xFF\xFF\xFF", 16, 112),
+    ("16 behind padding", b"\x00\x00\x01\x81", 16, 112),
+    ("an assigned number of 80", b"\x02\x01\x80", 5, 109),
+    ("one of four top bits", b"\x05\x01\xFF\xFF\xFF\xFF", 5, 109),
+    ("one that isn't over", b"\x02\x01\x81", 5, 109),
+    ("a sound type that isn't held", b"\x02\x81\x00", 6, 109),
 ];
 
 /// A header, and these bytes behind it.
@@ -116,29 +88,17 @@ fn ask_all(name: String, bytes: &[u8], place: usize, tally: &mut Tally) -> Vec<(
 
 #[test]
 fn named_cases() {
-    let mut tally = Tally::default();
-    for Named {
-        name,
-        bytes,
-        refusal,
-    } in &CASES
-    {
+    for (name, bytes, number, place) in CASES {
         let padding = bytes.iter().take_while(|&&byte| byte == 0).count();
-        let place = HEADER_LENGTH + padding;
-        let answers = ask_all(name.to_string(), &behind_header(bytes), place, &mut tally);
-        assert_eq!(answers, [*refusal; 6], "{name}");
-    }
-    for (call, name) in CALLS.iter().enumerate().skip(1) {
-        for number in [14, 15, 16] {
-            assert!(tally.of(call, number) > 0, "{name} never gave {number}");
-        }
+        let (bytes, start) = (behind_header(bytes), HEADER_LENGTH + padding);
+        let answers = ask_all(name.to_string(), &bytes, start, &mut Tally::default());
+        assert_eq!(answers, [(number, place); 6], "{name}");
     }
 }
 
 /// A type behind a size of two to four bytes is told by its own place.
 #[test]
 fn types_behind_longer_sizes() {
-    let mut tally = Tally::default();
     let sizes: [(&[u8], usize); 3] = [
         (b"\x81\x00", 128),
         (b"\x81\x80\x00", 16_384),
@@ -154,13 +114,14 @@ fn types_behind_longer_sizes() {
                 // A listing of so long a file is refused by 1.
                 expected[4] = (1, 0);
             }
-            let answers = ask_all(format!("{size:x?}"), &bytes, HEADER_LENGTH, &mut tally);
+            let name = format!("{size:x?} {kind:x?}");
+            let answers = ask_all(name, &bytes, HEADER_LENGTH, &mut Tally::default());
             assert_eq!(answers, expected, "{size:x?} {kind:x?}");
         }
     }
 }
 
-/// The string of this number in the order by length, then by [`BYTES`]'s order.
+/// The string of this length whose bytes are this number's digits, the lowest first.
 fn string(length: usize, mut number: usize) -> Vec<u8> {
     let digits = (0..length).map(|_| {
         let byte = BYTES[number % BYTES.len()];
@@ -177,13 +138,9 @@ fn every_short_string_agrees() {
         tally.join(spread(
             BYTES.len().pow(length as u32),
             |number, tally| {
+                let name = format!("{number} of {length}");
                 let bytes = behind_header(&string(length, number));
-                ask_all(
-                    format!("{number} of {length}"),
-                    &bytes,
-                    HEADER_LENGTH,
-                    tally,
-                );
+                ask_all(name, &bytes, HEADER_LENGTH, tally);
             },
             Tally::join,
         ));

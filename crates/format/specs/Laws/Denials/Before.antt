@@ -12,14 +12,14 @@ use Rattle.format.specs.Integers.{Integer}
 use Rattle.format.specs.Register.{Names}
 use Rattle.format.specs.Laws.Register.{some-some}
 use Rattle.format.specs.Records.{Refusal, refusal, element}
-use Rattle.format.specs.Refusals.{Rule, firstOf, standing, isAmong, InTable, isFaulty, isUnfinished, sizeAt, bodyAt, typeAt, leadsWith80, isTooLong, isPastSize, isIncomplete, integerRules, meaningRules, recordRules, isBroken, baseRules, isSplit, IsSplit, asBefore, elementRules, refusalOfGot}
+use Rattle.format.specs.Refusals.{Rule, firstOf, standing, isAmong, InTable, isFaulty, isUnfinished, sizeAt, bodyAt, typeAt, leadsWith80, isTooLong, isPastSize, isIncomplete, integerRules, meaningRules, recordRules, isBroken, baseRules, isSplit, IsSplit, asBefore, elementRules, refusalBefore, refusalOfGot}
 use Rattle.format.specs.Laws.Denials.Integers.{ByTests, leading, long, short, over, read-tests}
 use Rattle.format.specs.Laws.Denials.Items.{none-some, element-refusal, first-numbered, record-numbered, element-numbered}
 
 -- ---- rules of the three (b is true) or of none of them, as 01 told them of a record at p
-unfoldable AllSplit : Bool → List Rule → Type 0
-AllSplit b [] = Unit {0}
-AllSplit b (r ∷ rs) = (isSplit (r .refusal) ≡ b) × AllSplit b rs
+unfoldable AreSplit : Bool → List Rule → Type 0
+AreSplit b [] = Unit {0}
+AreSplit b (r ∷ rs) = (isSplit (r .refusal) ≡ b) × AreSplit b rs
 
 unfoldable anyDue : List Rule → Bool
 anyDue [] = false
@@ -29,13 +29,13 @@ module _ (p : ℕ) where
   abbrev told : List Rule → Option Refusal
   told rs = Option·map (asBefore p) (firstOf rs)
 
-  split-first : (fs rs : List Rule) → AllSplit true fs → told (fs ++ rs) ≡ cond (anyDue fs) (some (refusal 4 p)) (told rs)
-  unfolding firstOf AllSplit anyDue asBefore
+  split-first : (fs rs : List Rule) → AreSplit true fs → told (fs ++ rs) ≡ cond (anyDue fs) (some (refusal 4 p)) (told rs)
+  unfolding firstOf AreSplit anyDue asBefore
   split-first [] rs a = refl
   split-first (f ∷ fs) rs (s, a) = by-test (f .when) (λ h. rw (h, s)) (λ h. rw h (split-first fs rs a))
 
-  others-first : (rs : List Rule) → AllSplit false rs → told rs ≡ firstOf rs
-  unfolding firstOf AllSplit asBefore
+  others-first : (rs : List Rule) → AreSplit false rs → told rs ≡ firstOf rs
+  unfolding firstOf AreSplit asBefore
   others-first [] a = refl
   others-first (r ∷ rs) (s, a) = by-test (r .when) (λ h. rw (h, s)) (λ h. rw h (others-first rs a))
 
@@ -68,12 +68,12 @@ module _ (p : ℕ) (l : List ℕ) where
 
 -- ---- so the two tables differ in the three alone
 module _ (g : Names) (p : ℕ) (l : List ℕ) where
-  integers-split : AllSplit true (integerRules p l)
-  unfolding AllSplit integerRules
+  integers-split : AreSplit true (integerRules p l)
+  unfolding AreSplit integerRules
   integers-split = (refl, (refl, (refl, (refl, (refl, tt)))))
 
-  meanings-not : AllSplit false (meaningRules g p l)
-  unfolding AllSplit meaningRules
+  meanings-not : AreSplit false (meaningRules g p l)
+  unfolding AreSplit meaningRules
   meanings-not = (refl, (refl, (refl, (refl, tt))))
 
   record-before : firstOf (baseRules g p l) ≡ told p (recordRules g p l)
@@ -85,13 +85,10 @@ module _ (g : Names) (p : ℕ) (l : List ℕ) where
       let e = split-first p (integerRules p l) (meaningRules g p l) integers-split in
       rw (h, broken-split p l, e, others-first p (meaningRules g p l) meanings-not))
 
--- the element at p, of the bytes x ∷ xs, and what 01's table says of it
+-- the element at p, of the bytes x ∷ xs
 module _ (g : Names) (p : ℕ) where
-  abbrev before : ℕ → List ℕ → Option Refusal
-  before x xs = firstOf (elementRules (x ∷ xs) (baseRules g p (x ∷ xs)))
-
-  pub element-before : (x : ℕ) (xs : List ℕ) → before x xs ≡ Option·map (asBefore p) (refusalOfGot (element g p x xs))
-  unfolding elementRules firstOf element
+  pub element-before : (x : ℕ) (xs : List ℕ) → refusalBefore g p (x ∷ xs) ≡ Option·map (asBefore p) (refusalOfGot (element g p x xs))
+  unfolding refusalBefore elementRules firstOf element
   element-before zero xs = refl
   element-before (suc x) xs = record-before g p (suc x ∷ xs) ∙ ap (Option·map (asBefore p)) (sym (element-refusal g p (suc x) xs))
 
@@ -109,7 +106,8 @@ module _ (g : Names) (p : ℕ) where
       (element-numbered (x ∷ xs) _ (record-numbered g p (x ∷ xs)))
       (sym (element-refusal g p x xs) ∙ e)
 
-  pub element-split : (x : ℕ) (xs : List ℕ) → (before x xs ≡ some (refusal 4 p)) ↔ IsSplit (refusalOfGot (element g p x xs))
+  pub element-split : (x : ℕ) (xs : List ℕ)
+      → (refusalBefore g p (x ∷ xs) ≡ some (refusal 4 p)) ↔ IsSplit (refusalOfGot (element g p x xs))
   element-split x xs = rw (element-before x xs) (go (refusalOfGot (element g p x xs)) (λ y e. split-four y (element-in-table x xs y e)))
     where
       go : (v : Option Refusal) → ((y : Refusal) → v ≡ some y → (asBefore p y ≡ refusal 4 p) ↔ (isSplit y ≡ true))
