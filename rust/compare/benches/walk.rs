@@ -3,86 +3,15 @@
 //!
 //! `BENCH_RUNS` is the number of runs of each (7), `BENCH_BYTES` the length of the logbooks (16,777,216).
 
-use compare::pieces::*;
-use compare::random::Random;
+use compare::pieces::USED_LIMIT;
 use compare::settings::number;
+use compare::shapes::{count_items, shapes, Shape, URIS};
 use logbook::raw;
 use std::hint::black_box;
 use std::time::Instant;
 
-/// Five epochs.
-const URIS: [&[u8]; 5] = [
-    b"urn:ep:2010",
-    b"urn:ep:2012",
-    b"urn:ep:2014",
-    b"urn:ep:2017",
-    b"urn:ep:2020",
-];
 /// Appends to a growing logbook.
 const APPENDS: usize = 2_000;
-
-/// A logbook that fills its buffer.
-struct Full {
-    name: &'static str,
-    log: Vec<u8>,
-    items: usize,
-}
-
-impl Full {
-    /// Records that `next` writes, from front to end, as long as they fit; padding behind.
-    fn new(name: &'static str, bytes: usize, next: impl Fn(usize, &mut Vec<u8>)) -> Full {
-        let mut log = Vec::with_capacity(bytes + 70_000);
-        push_header(&mut log, &mut Random::new(1, 1));
-        for (number, uri) in (2..).zip(URIS) {
-            push_assignment(&mut log, 1, number, uri);
-        }
-        for index in 0.. {
-            let place = log.len();
-            next(index, &mut log);
-            if log.len() >= bytes {
-                log.truncate(place);
-                break;
-            }
-        }
-        let items = count_items(&log);
-        Full { name, log, items }
-    }
-}
-
-/// The items of a logbook, its end not among them.
-fn count_items(log: &[u8]) -> usize {
-    let (mut reading, mut items) = (reader::Reading::fresh(), 0);
-    loop {
-        let (answer, next) = reading.step(log, log.len());
-        if let reader::Item::End { .. } = answer.expect("a sound logbook") {
-            return items;
-        }
-        items += 1;
-        reading = next;
-    }
-}
-
-/// (a) to (d): shots, long entries, padding, assignments.
-fn logbooks(bytes: usize) -> Vec<Full> {
-    let shot = [0x33; 30];
-    let long = vec![0x33; 65_000];
-    vec![
-        Full::new("shots of 30 bytes", bytes, |index, log| {
-            push_record(log, 2 + index as u32 % 5, &shot);
-        }),
-        Full::new("entries of 65,000 bytes", bytes, |_, log| {
-            push_record(log, 2, &long);
-        }),
-        Full::new("padding", bytes, |_, log| log.push(0)),
-        Full::new("assignments, 32 held", bytes, |index, log| {
-            let number = 2 + (index / 2) as u32 % 30;
-            match index % 2 {
-                0 => push_assignment(log, 1, number, URIS[index % 5]),
-                _ => push_record(log, number, &shot),
-            }
-        }),
-    ]
-}
 
 /// A side of a measurement; it answers a figure that both must agree on.
 type Side<'a> = Box<dyn FnMut() -> usize + 'a>;
@@ -144,7 +73,7 @@ fn spread(values: impl Iterator<Item = f64>) -> [f64; 3] {
 }
 
 /// The walk of an append that is refused with 12 behind it: the buffer is full.
-fn walk(full: &Full, runs: usize) {
+fn walk(full: &Shape, items: usize, runs: usize) {
     let (mut one, mut other) = (full.log.clone(), full.log.clone());
     let used = full.log.len();
     let ours = Box::new(|| raw::append(&mut one, used, URIS[0], b"P7").refusal);
@@ -153,13 +82,13 @@ fn walk(full: &Full, runs: usize) {
         Err(refused) => usize::from(refused.number),
     });
     let name = format!("append, {}", full.name);
-    measure(&name, full.items, runs, ours, theirs);
+    measure(&name, items, runs, ours, theirs);
     assert_eq!(one, full.log);
     assert_eq!(raw::append(&mut one, used, URIS[0], b"P7").refusal, 12);
 }
 
 /// A reading from fresh to its end, handed in and out at each step.
-fn steps(full: &Full, runs: usize) {
+fn steps(full: &Shape, items: usize, runs: usize) {
     let (log, used) = (&full.log[..], full.log.len());
     let ours = Box::new(|| {
         let mut reading = raw::fresh();
@@ -182,7 +111,7 @@ fn steps(full: &Full, runs: usize) {
         }
     });
     let name = format!("steps, {}", full.name);
-    measure(&name, full.items, runs, ours, theirs);
+    measure(&name, items, runs, ours, theirs);
 }
 
 /// Appends to a logbook that grows from its header on.
@@ -212,9 +141,10 @@ fn main() {
     let bytes = number("BENCH_BYTES", USED_LIMIT as u64) as usize;
     assert!(runs > 0 && (1_000..=USED_LIMIT).contains(&bytes));
     heading(bytes, runs);
-    for full in logbooks(bytes) {
-        walk(&full, runs);
-        steps(&full, runs);
+    for full in shapes(bytes) {
+        let items = count_items(&full.log);
+        walk(&full, items, runs);
+        steps(&full, items, runs);
     }
     growing(runs);
 }

@@ -4,7 +4,8 @@
 //! [`books`] and [`hostile`] make logbooks, [`requests`] and [`readings`] make
 //! what is asked of them, [`sides`] asks both implementations in one form, and
 //! [`case`] compares what comes back. [`calls`], [`series`] and [`files`] are
-//! the runs that the tests and the example `small` share.
+//! the runs that the tests and the example `small` share; [`shapes`] is for the
+//! benchmarks.
 //!
 //! `LOGBOOK_SEED` and `LOGBOOK_ROUNDS` (a multiplier) make other and longer
 //! runs. The tests print what they counted: `cargo test --release -- --nocapture`.
@@ -22,5 +23,6 @@ pub mod readings;
 pub mod requests;
 pub mod series;
 pub mod settings;
+pub mod shapes;
 pub mod sides;
 pub mod tally;

@@ -1,5 +1,5 @@
 //! 02 [1], "Say what is broken": sizes and types that are broken, cut off or too long, by every
-//! call that reads them.
+//! call that reads them. 02 [2], "Short integers": every first byte of a size and of a type.
 
 use compare::case::Case;
 use compare::pieces::HEADER_LENGTH;
@@ -151,5 +151,61 @@ fn every_short_string_agrees() {
             let can = number > 0 || !matches!(*name, "erase");
             assert_eq!(tally.of(call, number) > 0, can, "{name}: {number}");
         }
+    }
+}
+
+/// An integer with this first byte, and one more where the first has its top bit set.
+fn beginning_with(first: u8) -> Vec<u8> {
+    if first < 0x80 {
+        return vec![first];
+    }
+    vec![first, 0x05]
+}
+
+/// A header, an assignment of the type where it can be assigned, a record of that size and type
+/// and padding; and where the record starts.
+fn sized_and_typed(size: &[u8], kind: &[u8]) -> (Vec<u8>, usize) {
+    let assignment = match kind[0] {
+        0x00 | 0x80 => Vec::new(),
+        _ => [&[3 + kind.len() as u8, 0x01], kind, b"a:"].concat(),
+    };
+    let place = HEADER_LENGTH + assignment.len();
+    let bytes = behind_header(&[&assignment, size, kind, &[0; 300]].concat());
+    (bytes, place)
+}
+
+#[test]
+fn every_first_byte_agrees() {
+    let tally = spread(
+        0x1_0000,
+        |pair, tally| {
+            let size = beginning_with((pair >> 8) as u8);
+            let kind = beginning_with(pair as u8);
+            let (bytes, place) = sized_and_typed(&size, &kind);
+            ask_all(format!("{size:x?} {kind:x?}"), &bytes, place, tally);
+        },
+        Tally::join,
+    );
+    println!("{} calls compared\n{tally}", tally.calls());
+    for (call, name) in CALLS.iter().enumerate().skip(1) {
+        for number in [0, 2, 14, 16] {
+            assert!(tally.of(call, number) > 0, "{name}: {number}");
+        }
+    }
+}
+
+/// A size and a type below 80 are one byte each, and the record is as long as they say.
+#[test]
+fn bytes_below_80_are_integers() {
+    for (size, kind) in (1..0x80u8).flat_map(|size| (1..0x80u8).map(move |kind| (size, kind))) {
+        let (bytes, place) = sized_and_typed(&[size], &[kind]);
+        let mut step = raw::step(&bytes, bytes.len(), raw::fresh());
+        while step.item.place < place {
+            step = raw::step(&bytes, bytes.len(), step.reading);
+        }
+        let item = step.item;
+        assert_eq!((item.kind, item.row.number), (raw::ENTRY, kind.into()));
+        assert_eq!((item.type_place, item.data_place), (place + 1, place + 2));
+        assert_eq!(step.reading.position, place + 1 + usize::from(size));
     }
 }

@@ -1,0 +1,120 @@
+//! The instructions that the library takes for an item, counted by callgrind: a step of a reading, the walk of an append,
+//! the listing. The logbooks are as long as a file that is listed may be.
+//!
+//! It runs itself under valgrind, once for each count. The front of a logbook is counted by itself and taken off, so
+//! that a figure speaks of the shape's items alone. The same archive gives the same figures each time.
+
+use compare::shapes::{count_items, shapes, Shape, URIS};
+use logbook::raw;
+use std::env;
+use std::process::Command;
+
+/// What is counted: its name, and the call that counts.
+const COUNTED: [(&str, &str); 3] = [
+    ("step", "logbook_step"),
+    ("append", "logbook_append"),
+    ("list", "logbook_list"),
+];
+
+/// A whole reading, step by step.
+fn step(log: &[u8]) {
+    let mut reading = raw::fresh();
+    loop {
+        let step = raw::step(log, log.len(), reading);
+        match step.item.kind {
+            raw::END => return,
+            raw::REFUSED => panic!("refused by {}", step.item.refusal),
+            _ => reading = step.reading,
+        }
+    }
+}
+
+/// The walk of an append, which is then refused: the buffer is full.
+fn append(log: &[u8]) {
+    let mut full = log.to_vec();
+    assert_eq!(
+        raw::append(&mut full, log.len(), URIS[0], b"P7").refusal,
+        12
+    );
+}
+
+/// A whole listing, in pieces of about 200 lines.
+fn list(log: &[u8]) {
+    let mut out = vec![0; 200 * raw::LINE_LIMIT];
+    let mut reading = raw::fresh();
+    loop {
+        let listed = raw::list(reading, log, &mut out);
+        if listed.over == 1 {
+            return;
+        }
+        reading = listed.reading;
+    }
+}
+
+/// Makes the calls that are counted.
+fn work(name: &str, log: &[u8]) {
+    match name {
+        "step" => step(log),
+        "append" => append(log),
+        _ => list(log),
+    }
+}
+
+/// The instructions inside the calls, over that part of a shape.
+fn instructions(shape: usize, counted: (&str, &str), part: &str) -> u64 {
+    let run = Command::new("valgrind")
+        .args(["--tool=callgrind", "--callgrind-out-file=/dev/null"])
+        .arg(format!("--toggle-collect={}", counted.1))
+        .arg(env::current_exe().expect("this program"))
+        .args([&shape.to_string(), counted.0, part])
+        .output()
+        .expect("valgrind");
+    let said = String::from_utf8_lossy(&run.stderr);
+    assert!(run.status.success(), "{said}");
+    let total = said
+        .lines()
+        .find_map(|line| line.split_once("Collected : "));
+    total
+        .and_then(|total| total.1.trim().parse().ok())
+        .expect("callgrind's total")
+}
+
+/// The figures of a shape: instructions for each of its items.
+fn figures(index: usize, shape: &Shape) {
+    let items = count_items(&shape.log) - count_items(&shape.log[..shape.front]);
+    print!("{:<32}{items:>8}", shape.name);
+    for counted in COUNTED {
+        let whole = instructions(index, counted, "whole");
+        let front = instructions(index, counted, "front");
+        print!("{:>10.1}", (whole - front) as f64 / items as f64);
+    }
+    println!();
+}
+
+fn main() {
+    let all = shapes(raw::FILE_LIMIT);
+    let asked: Vec<String> = env::args()
+        .skip(1)
+        .filter(|word| word != "--bench")
+        .collect();
+    match asked.as_slice() {
+        [index, name, part] => {
+            let shape = &all[index.parse::<usize>().expect("a shape's index")];
+            let bytes = if part == "front" {
+                shape.front
+            } else {
+                shape.log.len()
+            };
+            work(name, &shape.log[..bytes]);
+        }
+        _ => {
+            println!(
+                "instructions an item\n{:<32}{:>8}{:>10}{:>10}{:>10}",
+                "", "items", "step", "append", "list"
+            );
+            for (index, shape) in all.iter().enumerate() {
+                figures(index, shape);
+            }
+        }
+    }
+}
