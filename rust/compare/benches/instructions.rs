@@ -60,32 +60,32 @@ fn work(name: &str, log: &[u8]) {
     }
 }
 
-/// The instructions inside the calls, over that part of a shape.
-fn instructions(shape: usize, counted: (&str, &str), part: &str) -> u64 {
+/// The instructions inside the calls, over the first bytes of a shape.
+fn instructions(index: usize, (name, call): (&str, &str), bytes: usize) -> u64 {
     let run = Command::new("valgrind")
         .args(["--tool=callgrind", "--callgrind-out-file=/dev/null"])
-        .arg(format!("--toggle-collect={}", counted.1))
+        .arg(format!("--toggle-collect={call}"))
         .arg(env::current_exe().expect("this program"))
-        .args([&shape.to_string(), counted.0, part])
+        .args([&index.to_string(), name, &bytes.to_string()])
         .output()
         .expect("valgrind");
     let said = String::from_utf8_lossy(&run.stderr);
     assert!(run.status.success(), "{said}");
-    let total = said
-        .lines()
-        .find_map(|line| line.split_once("Collected : "));
-    total
-        .and_then(|total| total.1.trim().parse().ok())
-        .expect("callgrind's total")
+    let total = said.split_once("Collected : ").expect("callgrind's total");
+    number(total.1.lines().next().expect("a line")) as u64
 }
 
-/// The figures of a shape: instructions for each of its items.
+fn number(word: &str) -> usize {
+    word.trim().parse().expect("a number")
+}
+
+/// A line of the table: instructions for each item of a shape.
 fn figures(index: usize, shape: &Shape) {
     let items = count_items(&shape.log) - count_items(&shape.log[..shape.front]);
     print!("{:<32}{items:>8}", shape.name);
     for counted in COUNTED {
-        let whole = instructions(index, counted, "whole");
-        let front = instructions(index, counted, "front");
+        let whole = instructions(index, counted, shape.log.len());
+        let front = instructions(index, counted, shape.front);
         print!("{:>10.1}", (whole - front) as f64 / items as f64);
     }
     println!();
@@ -93,28 +93,18 @@ fn figures(index: usize, shape: &Shape) {
 
 fn main() {
     let all = shapes(raw::FILE_LIMIT);
-    let asked: Vec<String> = env::args()
+    // cargo's own word aside
+    let words: Vec<String> = env::args()
         .skip(1)
         .filter(|word| word != "--bench")
         .collect();
-    match asked.as_slice() {
-        [index, name, part] => {
-            let shape = &all[index.parse::<usize>().expect("a shape's index")];
-            let bytes = if part == "front" {
-                shape.front
-            } else {
-                shape.log.len()
-            };
-            work(name, &shape.log[..bytes]);
-        }
-        _ => {
-            println!(
-                "instructions an item\n{:<32}{:>8}{:>10}{:>10}{:>10}",
-                "", "items", "step", "append", "list"
-            );
-            for (index, shape) in all.iter().enumerate() {
-                figures(index, shape);
-            }
-        }
+    if let [index, name, bytes] = words.as_slice() {
+        return work(name, &all[number(index)].log[..number(bytes)]);
+    }
+    println!("instructions an item");
+    print!("{:<32}{:>8}", "", "items");
+    println!("{:>10}{:>10}{:>10}", "step", "append", "list");
+    for (index, shape) in all.iter().enumerate() {
+        figures(index, shape);
     }
 }

@@ -2,6 +2,7 @@
 
 use crate::pieces::*;
 use crate::random::Random;
+use std::ops::Range;
 
 /// Five epochs.
 pub const URIS: [&[u8]; 5] = [
@@ -61,59 +62,26 @@ pub fn count_items(log: &[u8]) -> usize {
     }
 }
 
-/// (a) to (g), of less than that many bytes. Sizes and types have one byte in (a) and (d), more in (e), (f) and (g).
+/// (a) to (g), of less than that many bytes. Sizes and types have one byte in (a) and (d), more in
+/// (e), (f) and (g).
 pub fn shapes(bytes: usize) -> Vec<Shape> {
-    let (shot, wide, long) = ([0x33; 30], [0x33; 200], [0x33; 65_000]);
-    let four = NUMBER_LIMIT - 4;
-    let (one_byte, two_bytes, four_bytes) = (five(2), five(200), five(four));
-    let assigning = [&two_bytes[..], &[(300, TYPE)]].concat();
+    let most = NUMBER_LIMIT - 4;
+    let (one, two, four) = (five(2), five(200), five(most));
+    let typed = [&two[..], &[(300, TYPE)]].concat();
+    let long = assignments(300, 301..325, 140, 200);
+    let short = assignments(1, 2..32, 11, 30);
     vec![
-        Shape::new("(a) shots of 30 bytes", bytes, &one_byte, |index, log| {
-            push_record(log, 2 + index as u32 % 5, &shot);
-        }),
-        Shape::new("(b) entries of 65,000 bytes", bytes, &one_byte, |_, log| {
-            push_record(log, 2, &long);
-        }),
-        Shape::new("(c) padding", bytes, &one_byte, |_, log| log.push(0)),
-        Shape::new(
-            "(d) assignments, 32 held",
-            bytes,
-            &one_byte,
-            |index, log| {
-                let number = 2 + (index / 2) as u32 % 30;
-                match index % 2 {
-                    0 => push_assignment(log, 1, number, URIS[index % 5]),
-                    _ => push_record(log, number, &shot),
-                }
-            },
-        ),
-        Shape::new(
-            "(e) two bytes: shots of 200",
-            bytes,
-            &two_bytes,
-            |index, log| {
-                push_record(log, 200 + index as u32 % 5, &wide);
-            },
-        ),
-        Shape::new(
-            "(f) two bytes: assignments",
-            bytes,
-            &assigning,
-            |index, log| {
-                let number = 301 + (index / 2) as u32 % 24;
-                match index % 2 {
-                    0 => push_assignment(log, 300, number, &long_uri(URIS[index % 5])),
-                    _ => push_record(log, number, &wide),
-                }
-            },
-        ),
+        Shape::new("(a) shots of 30 bytes", bytes, &one, entries(2, 30)),
+        Shape::new("(b) entries of 65,000", bytes, &one, entries(2, 65_000)),
+        Shape::new("(c) padding", bytes, &one, |_, log| log.push(0)),
+        Shape::new("(d) assignments, 32 held", bytes, &one, short),
+        Shape::new("(e) two bytes: entries", bytes, &two, entries(200, 200)),
+        Shape::new("(f) two bytes: assignments", bytes, &typed, long),
         Shape::new(
             "(g) three and four bytes",
             bytes,
-            &four_bytes,
-            |index, log| {
-                push_record(log, four + index as u32 % 5, &long[..20_000]);
-            },
+            &four,
+            entries(most, 20_000),
         ),
     ]
 }
@@ -123,9 +91,27 @@ fn five(first: u32) -> Vec<(u32, &'static [u8])> {
     (first..).zip(URIS).collect()
 }
 
-/// The URI made 140 bytes long, so that the size of its assignment has two.
-fn long_uri(uri: &[u8]) -> Vec<u8> {
-    let mut long = uri.to_vec();
-    long.resize(140, b'/');
-    long
+/// Entries of that many data bytes, under five numbers in turn.
+fn entries(first: u32, length: usize) -> impl Fn(usize, &mut Vec<u8>) {
+    let data = vec![0x33; length];
+    move |index, log| push_record(log, first + index as u32 % 5, &data)
+}
+
+/// In turn an assignment, its URI brought to that many bytes, and an entry under its number.
+fn assignments(
+    under: u32,
+    numbers: Range<u32>,
+    uri_length: usize,
+    length: usize,
+) -> impl Fn(usize, &mut Vec<u8>) {
+    let data = vec![0x33; length];
+    move |index, log| {
+        let number = numbers.start + (index / 2) as u32 % numbers.len() as u32;
+        let mut uri = URIS[index % 5].to_vec();
+        uri.resize(uri_length, b'/');
+        match index % 2 {
+            0 => push_assignment(log, under, number, &uri),
+            _ => push_record(log, number, &data),
+        }
+    }
 }
