@@ -5,6 +5,9 @@ pub mod Cases
 pub mod Bytes
 pub mod Integers
 pub mod Uris
+pub mod Wholes
+pub mod Epochs
+pub mod Shifts
 pub mod Header
 pub mod Register
 pub mod Requests

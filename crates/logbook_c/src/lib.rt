@@ -4,6 +4,7 @@ ghost use Prim.Native.Nat.{_+_, _≤_};
 ghost use lib.ListN.{length};
 ghost use Rattle.format.specs.Reading as Format;
 ghost use Rattle.format.specs.Calls as Calls;
+ghost use Rattle.format.specs.Epochs as Epochs;
 ghost use Rattle.register.specs.Tables.{rowOf};
 ghost use Rattle.record.specs.Items.{refusalOf};
 ghost use Rattle.appending.specs.Starts.{startedOf};
@@ -12,11 +13,17 @@ ghost use Rattle.erasing.specs.Erases.{erasedOf};
 ghost use Rattle.erasing.specs.Wipes.{wipedOf};
 ghost use Rattle.reading.specs.Readings.{readingOf};
 ghost use Rattle.listing.specs.Filling.{fillOf};
+ghost use Rattle.epoch.specs.Answers.{tripleOf};
 ghost use Rattle.logbook_c.specs.Answers.{startedAs, appendedAs, erasedAs, wipedAs, Starts, Appends, Keeps};
+ghost use Rattle.logbook_c.specs.Shifts.{shiftedFrom, shiftedAs};
 ghost use Rattle.logbook_c.specs.Items.{readingFrom, rowAs, bareAs, deletedAs, liveAs, assignmentAs, refusedAs, itemAs};
 ghost use Rattle.logbook_c.specs.Items.{BoundedEntry, Bounded, Steps, rowFrom, uriAs, flagOf, Lists};
 use appending::Appended;
 use appending::Started;
+use epoch::Motion;
+use epoch::Point;
+use epoch::Shifted;
+use epoch::Triple;
 use erasing::Erased;
 use erasing::Wiped;
 use fit::Resolved;
@@ -108,6 +115,16 @@ pub struct LogbookListed {
     pub length: usize,
     pub over: usize,
     pub reading: LogbookReading,
+}
+
+#[repr(C)]
+pub struct LogbookShifted {
+    pub refusal: usize,
+    pub place: usize,
+    pub epoch: usize,
+    pub position: Triple,
+    pub point: Point,
+    pub motion: Motion,
 }
 
 fn started(r: Started) -> LogbookStarted
@@ -465,4 +482,58 @@ pub extern "C" fn logbook_list(
         over: flag(t.over),
         reading,
     }
+}
+
+fn shifted(r: Shifted) -> LogbookShifted
+    ensures { λ x. ⌜ x ≡ shiftedFrom r ⌝ }
+{
+    match r {
+        Shifted::Moved {
+            epoch,
+            position,
+            point,
+            motion,
+        } => LogbookShifted {
+            refusal: 0,
+            place: 0,
+            epoch,
+            position,
+            point,
+            motion,
+        },
+        Shifted::Refused(x) => {
+            let t = record::tell(x);
+            let position = Triple { x: 0, y: 0, z: 0 };
+            let point = Point {
+                x: 0.0,
+                y: 0.0,
+                z: 0.0,
+            };
+            let motion = Motion {
+                x: 0.0,
+                y: 0.0,
+                z: 0.0,
+            };
+            LogbookShifted {
+                refusal: t.number,
+                place: t.place.0,
+                epoch: 0,
+                position,
+                point,
+                motion,
+            }
+        }
+    }
+}
+
+#[no_mangle]
+pub extern "C" fn logbook_shift(
+    uri: &[u8],
+    bytes: &[u8],
+    asked: i64,
+    motion: Triple,
+) -> LogbookShifted
+    ensures { λ r. ⌜ r ≡ shiftedAs (Epochs.shift (now (uri .entry)) (now (bytes .entry)) asked (tripleOf motion)) ⌝ }
+{
+    shifted(epoch::shift(uri, bytes, asked, motion))
 }
