@@ -34,10 +34,17 @@ extern "C" {
 #define LOGBOOK_ROWS 32u                  /* type numbers held at once */
 #define LOGBOOK_FILE_LIMIT 65536u         /* the longest file that is listed */
 #define LOGBOOK_LINE_LIMIT 320u           /* room that a listing asks for each line */
+#define LOGBOOK_SHOT_LENGTH 24u           /* bytes of a shot's data */
+
+/* ---- limits of a shift: the greatest sizes, so -LOGBOOK_MOTION_LIMIT is allowed too. They have a sign, as what they bound. */
+#define LOGBOOK_COORDINATE_LIMIT 100000000000 /* of a shot's coordinate, in tenths of a millimetre */
+#define LOGBOOK_DIFFERENCE_LIMIT 100000       /* of the asked epoch less the shot's, in hundredths of a year */
+#define LOGBOOK_MOTION_LIMIT 10000            /* of a motion, in tenths of a millimetre a year */
 
 /*
  * ---- refusals: the number, when it is given, and the place that comes with it (0 where none is named). 4 was withdrawn; 14, 15 and 16
- * stand where it stood. In one record they come in the order 2, 14, 15, 16, 6, 3, 5, 7. Later versions may have further numbers.
+ * stand where it stood. In one record they come in the order 2, 14, 15, 16, 6, 3, 5, 7. 24, 25 and 26, in this order, are a shift's alone.
+ * Later versions may have further numbers.
  */
 enum {
     LOGBOOK_DONE = 0,            /* not refused */
@@ -55,7 +62,10 @@ enum {
     LOGBOOK_NOT_FITTING = 13,    /* the reading (or the row) that was handed in doesn't fit */
     LOGBOOK_EMPTY_LEAD = 14,     /* a size or a type begins with the byte 80; that byte */
     LOGBOOK_TOO_LONG = 15,       /* a size or a type isn't over at the last byte that it may have, its fourth; that byte */
-    LOGBOOK_PAST_SIZE = 16       /* a type isn't over within its record's size; the record's last byte */
+    LOGBOOK_PAST_SIZE = 16,      /* a type isn't over within its record's size; the record's last byte */
+    LOGBOOK_NOT_EPOCH = 24,      /* the URI isn't urn:ep: and four digits, or those, a point and two digits */
+    LOGBOOK_NOT_SHOT = 25,       /* the data isn't 24 bytes */
+    LOGBOOK_OVER_BOUND = 26      /* a coordinate, the difference of the epochs or a motion is over its limit */
 };
 
 /* ---- start a logbook: a header over the first 109 bytes; the others stay. `used` is 109 (and `place` 0), or 0 where refused (10, 12). */
@@ -183,6 +193,42 @@ typedef struct logbook_listed {
 } logbook_listed;
 
 logbook_listed logbook_list(logbook_reading reading, const uint8_t *file, size_t file_len, uint8_t *out, size_t out_len);
+
+/*
+ * ---- shift a shot to another epoch. It takes no logbook: `uri` and `data` are those of an entry. The URI alone says the shot's epoch:
+ * `urn:ep:` and four digits of a year, or those, a point and two digits (exact bytes). The data is its x, y and z, each a signed number
+ * of 8 bytes, the highest first, in tenths of a millimetre. `asked` is an epoch in hundredths of a year (201750 for 2017.50), `motion`
+ * is in tenths of a millimetre a year; any numbers may be handed in. For each of x, y and z
+ *
+ *     point = 100 * position + motion * (asked - epoch)        in micrometres
+ *     motion = 100 * motion                                    in micrometres a year
+ *
+ * so a motion of 700 and a difference of 720 move a point 504,000. Every double is a whole number of at most 10,001,000,000,000 in size,
+ * exact and never -0.0. Refused with 24 for the URI, 25 for the data's length, 26 for a figure over its limit, in this order; where
+ * refused all but `refusal` is 0.
+ */
+typedef struct logbook_triple { /* whole numbers: tenths of a millimetre, or of a millimetre a year */
+    int64_t x, y, z;
+} logbook_triple;
+
+typedef struct logbook_point { /* micrometres */
+    double x, y, z;
+} logbook_point;
+
+typedef struct logbook_motion { /* micrometres a year */
+    double x, y, z;
+} logbook_motion;
+
+typedef struct logbook_shifted {
+    size_t refusal, place;
+    size_t epoch;            /* the shot's own, in hundredths of a year: 201000 for urn:ep:2010 */
+    logbook_triple position; /* the shot's own coordinates */
+    logbook_point point;     /* the moved point */
+    logbook_motion motion;   /* the yearly motion */
+} logbook_shifted;
+
+logbook_shifted logbook_shift(const uint8_t *uri, size_t uri_len, const uint8_t *data, size_t data_len, int64_t asked,
+                              logbook_triple motion);
 
 #ifdef __cplusplus
 }

@@ -78,6 +78,25 @@ SIZE(logbook_listed, 2 * WORD + sizeof(logbook_reading));
 AT(logbook_listed, length, 0);
 AT(logbook_listed, over, WORD);
 AT(logbook_listed, reading, 2 * WORD);
+SIZE(logbook_triple, 24);
+AT(logbook_triple, x, 0);
+AT(logbook_triple, y, 8);
+AT(logbook_triple, z, 16);
+SIZE(logbook_point, 24);
+AT(logbook_point, x, 0);
+AT(logbook_point, y, 8);
+AT(logbook_point, z, 16);
+SIZE(logbook_motion, 24);
+AT(logbook_motion, x, 0);
+AT(logbook_motion, y, 8);
+AT(logbook_motion, z, 16);
+SIZE(logbook_shifted, 3 * WORD + 72);
+AT(logbook_shifted, refusal, 0);
+AT(logbook_shifted, place, WORD);
+AT(logbook_shifted, epoch, 2 * WORD);
+AT(logbook_shifted, position, 3 * WORD);
+AT(logbook_shifted, point, 3 * WORD + 24);
+AT(logbook_shifted, motion, 3 * WORD + 48);
 
 /* ---- a buffer with room behind the morning's 145 bytes */
 enum { ROOM = 200, MORNING = 145 };
@@ -316,6 +335,92 @@ static void outside(const uint8_t *buf) {
     CHECK(logbook_uri_bytes(buf, answer) == buf + 112);
 }
 
+/* A shot of the epoch 2010, moved over a difference. */
+static logbook_shifted shift(logbook_triple position, int64_t difference, logbook_triple motion) {
+    const int64_t coordinates[] = {position.x, position.y, position.z};
+    uint8_t data[LOGBOOK_SHOT_LENGTH];
+    for (size_t place = 0; place < sizeof data; place++) {
+        data[place] = (uint8_t)((uint64_t)coordinates[place / 8] >> (56 - 8 * (place % 8)));
+    }
+    return logbook_shift(TEXT("urn:ep:2010"), data, sizeof data, 201000 + difference, motion);
+}
+
+static logbook_triple triple(int64_t x, int64_t y, int64_t z) {
+    logbook_triple whole = {x, y, z};
+    return whole;
+}
+
+/* Whether an answer is this refusal, and all behind it is 0 in every bit. */
+static int is_unmoved(logbook_shifted shifted, size_t refusal) {
+    static const uint8_t zeros[sizeof shifted] = {0};
+    const size_t front = sizeof shifted.refusal;
+    return shifted.refusal == refusal && memcmp((const uint8_t *)&shifted + front, zeros, sizeof shifted - front) == 0;
+}
+
+/* 02 [11]: "700 and 720 move a point 504,000"; the bounds, on both sides. */
+static void shifts(void) {
+    const int64_t far = LOGBOOK_COORDINATE_LIMIT, fast = LOGBOOK_MOTION_LIMIT, late = LOGBOOK_DIFFERENCE_LIMIT;
+    logbook_shifted shifted = shift(triple(40000000000, -12, 0), 720, triple(700, -700, 0));
+    CHECK(REFUSED(shifted, LOGBOOK_DONE, 0) && shifted.epoch == 201000);
+    CHECK(shifted.position.x == 40000000000 && shifted.position.y == -12 && shifted.position.z == 0);
+    CHECK(shifted.point.x == 4000000504000.0 && shifted.point.y == -505200.0);
+    CHECK(shifted.motion.x == 70000.0 && shifted.motion.y == -70000.0);
+    static const uint8_t zero[sizeof(double)] = {0};
+    CHECK(memcmp(&shifted.point.z, zero, sizeof zero) == 0 && memcmp(&shifted.motion.z, zero, sizeof zero) == 0);
+    shifted = shift(triple(far, -far, 0), late, triple(fast, -fast, 0));
+    CHECK(shifted.refusal == LOGBOOK_DONE && shifted.point.x == 10001000000000.0 && shifted.point.y == -10001000000000.0);
+    shifted = shift(triple(-far, far, far), -late, triple(fast, -fast, fast));
+    CHECK(shifted.point.x == -10001000000000.0 && shifted.point.y == 10001000000000.0 && shifted.point.z == 9999000000000.0);
+
+    const logbook_triple none = triple(0, 0, 0);
+    const int64_t sides[] = {far + 1, -far - 1, INT64_MAX, INT64_MIN};
+    for (size_t index = 0; index < 4; index++) {
+        CHECK(is_unmoved(shift(triple(sides[index], 0, 0), 0, none), LOGBOOK_OVER_BOUND));
+        CHECK(is_unmoved(shift(triple(0, sides[index], 0), 0, none), LOGBOOK_OVER_BOUND));
+        CHECK(is_unmoved(shift(triple(0, 0, sides[index]), 0, none), LOGBOOK_OVER_BOUND));
+    }
+    const int64_t motions[] = {fast + 1, -fast - 1, INT64_MAX, INT64_MIN};
+    for (size_t index = 0; index < 4; index++) {
+        CHECK(is_unmoved(shift(none, 0, triple(motions[index], 0, 0)), LOGBOOK_OVER_BOUND));
+        CHECK(is_unmoved(shift(none, 0, triple(0, motions[index], 0)), LOGBOOK_OVER_BOUND));
+        CHECK(is_unmoved(shift(none, 0, triple(0, 0, motions[index])), LOGBOOK_OVER_BOUND));
+    }
+    CHECK(is_unmoved(shift(none, late + 1, none), LOGBOOK_OVER_BOUND));
+    CHECK(is_unmoved(shift(none, -late - 1, none), LOGBOOK_OVER_BOUND));
+}
+
+/* What an epoch is, and 24, 25 and 26 in their order. */
+static void shift_refusals(void) {
+    static const struct {
+        const char *uri;
+        size_t epoch;
+    } epochs[] = {
+        {"urn:ep:2010", 201000}, {"urn:ep:2017.50", 201750}, {"urn:ep:0000", 0}, {"urn:ep:0000.01", 1}, {"urn:ep:9999.99", 999999},
+    };
+    static const char *const others[] = {
+        "urn:ep:", "urn:ep:201", "urn:ep:20100", "urn:ep:2010.", "urn:ep:2010.5", "urn:ep:2010.500", "urn:ep:201x", "URN:ep:2010", "a:",
+    };
+    uint8_t data[2 * LOGBOOK_SHOT_LENGTH] = {0};
+    const logbook_triple none = triple(0, 0, 0), over = triple(INT64_MIN, 0, INT64_MAX);
+    for (size_t index = 0; index < sizeof epochs / sizeof epochs[0]; index++) {
+        const uint8_t *uri = (const uint8_t *)epochs[index].uri;
+        size_t length = strlen(epochs[index].uri), epoch = epochs[index].epoch;
+        logbook_shifted shifted = logbook_shift(uri, length, data, LOGBOOK_SHOT_LENGTH, (int64_t)epoch, none);
+        CHECK(REFUSED(shifted, LOGBOOK_DONE, 0) && shifted.epoch == epoch);
+        CHECK(is_unmoved(logbook_shift(uri, length, data, LOGBOOK_SHOT_LENGTH, INT64_MAX, none), LOGBOOK_OVER_BOUND));
+        CHECK(is_unmoved(logbook_shift(uri, length, data, LOGBOOK_SHOT_LENGTH, INT64_MIN, none), LOGBOOK_OVER_BOUND));
+    }
+    for (size_t index = 0; index < sizeof others / sizeof others[0]; index++) {
+        const uint8_t *uri = (const uint8_t *)others[index];
+        CHECK(is_unmoved(logbook_shift(uri, strlen(others[index]), data, LOGBOOK_SHOT_LENGTH, 201000, none), LOGBOOK_NOT_EPOCH));
+        CHECK(is_unmoved(logbook_shift(uri, strlen(others[index]), data, 0, INT64_MIN, over), LOGBOOK_NOT_EPOCH));
+    }
+    for (size_t length = 0; length <= sizeof data; length++) {
+        size_t refusal = length == LOGBOOK_SHOT_LENGTH ? LOGBOOK_OVER_BOUND : LOGBOOK_NOT_SHOT;
+        CHECK(is_unmoved(logbook_shift(TEXT("urn:ep:2010"), data, length, INT64_MIN, over), refusal));
+    }
+}
+
 /* A pointer with length 0 may be null, in every argument. */
 static void null_pointers(uint8_t *buf) {
     uint8_t out[LOGBOOK_LINE_LIMIT];
@@ -333,6 +438,8 @@ static void null_pointers(uint8_t *buf) {
     CHECK(lists(NULL, 0, sizeof out, "refused\t2\t0\n"));
     logbook_listed listed = logbook_list(logbook_fresh(), buf, MORNING, NULL, 0);
     CHECK(listed.length == 0 && listed.over == 0);
+    CHECK(is_unmoved(logbook_shift(NULL, 0, NULL, 0, 0, triple(0, 0, 0)), LOGBOOK_NOT_EPOCH));
+    CHECK(is_unmoved(logbook_shift(TEXT("urn:ep:2010"), NULL, 0, 0, triple(0, 0, 0)), LOGBOOK_NOT_SHOT));
     logbook_appended done = logbook_append(buf, ROOM, MORNING, TEXT("urn:ep:2017"), NULL, 0);
     CHECK(REFUSED(done, LOGBOOK_DONE, MORNING) && done.used == MORNING + 2);
     done = logbook_assign(buf, ROOM, done.used, 2, NULL, 0);
@@ -351,6 +458,8 @@ int main(void) {
     refusals(buf);
     faults();
     register_refusals();
+    shifts();
+    shift_refusals();
     null_pointers(buf);
     printf("%u checks\n", checks);
     return 0;

@@ -4,7 +4,7 @@
 //! number, and the number means the URI that the latest assignment before the record gives it.
 //! [`Logbook`] starts a logbook or takes one up, appends entries by URI, assigns type numbers,
 //! erases entries and wipes what is left of them; [`items`], [`entries`] and [`Reading`] read one;
-//! [`listing`] lists one as text.
+//! [`listing`] lists one as text; [`shift()`] moves a shot to another epoch.
 //!
 //! ```
 //! use logbook::{Logbook, Place, Refusal};
@@ -28,7 +28,7 @@
 //! # Ok::<(), Refusal>(())
 //! ```
 //!
-//! Every call takes any bytes and any request, and ends with its result or with one of fifteen
+//! Every call takes any bytes and any request, and ends with its result or with one of eighteen
 //! [refusals](Refusal); a refused call changes nothing. What a call answers and stores is proved of
 //! the static library; this crate only hands arguments and answers through. [`raw`] has the
 //! library's own structs and calls, and all of the crate's unsafe code.
@@ -48,11 +48,14 @@ mod log;
 pub mod raw;
 mod reading;
 mod refusal;
+mod shift;
 
 pub use listing::{listing, write_listing, Listing};
 pub use log::Logbook;
+pub use raw::{Motion, Point, Triple};
 pub use reading::{check, entries, items, Entry, Item, Items, Kind, Reading, Summary};
 pub use refusal::Refusal;
+pub use shift::{shift, Epoch, ParseEpochError, Shifted};
 
 use std::fmt;
 

@@ -1,4 +1,4 @@
-//! The C interface (`include/logbook.h`), one to one: its structs, its numbers and its nine calls,
+//! The C interface (`include/logbook.h`), one to one: its structs, its numbers and its ten calls,
 //! over slices.
 //!
 //! Every call takes any arguments. A refused call answers the refusal's number and place and
@@ -25,6 +25,14 @@ pub const ROWS: usize = 32;
 pub const FILE_LIMIT: usize = 65_536;
 /// Room that a listing asks for each line.
 pub const LINE_LIMIT: usize = 320;
+/// Bytes of a shot's data.
+pub const SHOT_LENGTH: usize = 24;
+/// The greatest size of a shot's coordinate, in tenths of a millimetre.
+pub const COORDINATE_LIMIT: i64 = 100_000_000_000;
+/// The greatest size of the asked epoch less the shot's, in hundredths of a year.
+pub const DIFFERENCE_LIMIT: i64 = 100_000;
+/// The greatest size of a motion, in tenths of a millimetre a year.
+pub const MOTION_LIMIT: i64 = 10_000;
 
 /// An item's kind: one byte of padding.
 pub const PADDING: usize = 0;
@@ -182,8 +190,64 @@ pub struct Listed {
     pub reading: Reading,
 }
 
+/// Whole numbers: tenths of a millimetre, or of a millimetre a year.
+#[repr(C)]
+#[derive(Clone, Copy, PartialEq, Eq, Debug)]
+pub struct Triple {
+    /// Along the first axis.
+    pub x: i64,
+    /// Along the second.
+    pub y: i64,
+    /// Along the third.
+    pub z: i64,
+}
+
+/// A point in micrometres. Each number is whole and exact, and never -0.0.
+#[repr(C)]
+#[derive(Clone, Copy, PartialEq, Debug)]
+pub struct Point {
+    /// Along the first axis.
+    pub x: f64,
+    /// Along the second.
+    pub y: f64,
+    /// Along the third.
+    pub z: f64,
+}
+
+/// A motion in micrometres a year. Each number is whole and exact, and never -0.0.
+#[repr(C)]
+#[derive(Clone, Copy, PartialEq, Debug)]
+pub struct Motion {
+    /// Along the first axis.
+    pub x: f64,
+    /// Along the second.
+    pub y: f64,
+    /// Along the third.
+    pub z: f64,
+}
+
+/// What [`shift`] answers; where refused all but the refusal's number is 0.
+#[repr(C)]
+#[derive(Clone, Copy, PartialEq, Debug)]
+pub struct Shifted {
+    /// 0, or the refusal's number.
+    pub refusal: usize,
+    /// The refusal's place.
+    pub place: usize,
+    /// The shot's own epoch, in hundredths of a year.
+    pub epoch: usize,
+    /// The shot's own coordinates.
+    pub position: Triple,
+    /// The moved point.
+    pub point: Point,
+    /// The yearly motion.
+    pub motion: Motion,
+}
+
 mod c {
-    use super::{Appended, Erased, Listed, Reading, Row, Started, Step, UriAnswer, Wiped};
+    use super::{
+        Appended, Erased, Listed, Reading, Row, Shifted, Started, Step, Triple, UriAnswer, Wiped,
+    };
 
     extern "C" {
         pub fn logbook_start(
@@ -229,6 +293,14 @@ mod c {
             out: *mut u8,
             out_len: usize,
         ) -> Listed;
+        pub fn logbook_shift(
+            uri: *const u8,
+            uri_len: usize,
+            data: *const u8,
+            data_len: usize,
+            asked: i64,
+            motion: Triple,
+        ) -> Shifted;
     }
 }
 
@@ -331,10 +403,27 @@ pub fn list(reading: Reading, file: &[u8], out: &mut [u8]) -> Listed {
     }
 }
 
+/// Shifts a shot to an asked epoch, in hundredths of a year, by a yearly motion.
+#[inline]
+pub fn shift(uri: &[u8], data: &[u8], asked: i64, motion: Triple) -> Shifted {
+    // SAFETY: each pointer is a slice's, given with that slice's length, and is only read.
+    unsafe {
+        c::logbook_shift(
+            uri.as_ptr(),
+            uri.len(),
+            data.as_ptr(),
+            data.len(),
+            asked,
+            motion,
+        )
+    }
+}
+
 /// The structs' sizes and the places of their fields, as a C compiler has them.
 mod layout {
     use super::{
-        Appended, Erased, Item, Listed, Reading, Row, Started, Step, UriAnswer, Wiped, ROWS,
+        Appended, Erased, Item, Listed, Motion, Point, Reading, Row, Shifted, Started, Step,
+        Triple, UriAnswer, Wiped, ROWS,
     };
     use std::mem::{offset_of, size_of};
 
@@ -380,4 +469,21 @@ mod layout {
     const _: () = assert!(offset_of!(UriAnswer, length) == 3 * WORD);
     const _: () = assert!(offset_of!(Listed, reading) == 2 * WORD);
     const _: () = assert!(size_of::<Listed>() == 2 * WORD + size_of::<Reading>());
+
+    const _: () = assert!(size_of::<Triple>() == 24);
+    const _: () = assert!(offset_of!(Triple, y) == 8);
+    const _: () = assert!(offset_of!(Triple, z) == 16);
+    const _: () = assert!(size_of::<Point>() == 24);
+    const _: () = assert!(offset_of!(Point, y) == 8);
+    const _: () = assert!(offset_of!(Point, z) == 16);
+    const _: () = assert!(size_of::<Motion>() == 24);
+    const _: () = assert!(offset_of!(Motion, y) == 8);
+    const _: () = assert!(offset_of!(Motion, z) == 16);
+    const _: () = assert!(size_of::<Shifted>() == 3 * WORD + 72);
+    const _: () = assert!(offset_of!(Shifted, refusal) == 0);
+    const _: () = assert!(offset_of!(Shifted, place) == WORD);
+    const _: () = assert!(offset_of!(Shifted, epoch) == 2 * WORD);
+    const _: () = assert!(offset_of!(Shifted, position) == 3 * WORD);
+    const _: () = assert!(offset_of!(Shifted, point) == 3 * WORD + 24);
+    const _: () = assert!(offset_of!(Shifted, motion) == 3 * WORD + 48);
 }

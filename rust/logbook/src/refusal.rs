@@ -1,12 +1,12 @@
-//! The fifteen refusals.
+//! The eighteen refusals.
 
 use crate::Place;
 use std::fmt;
 
 /// Why a call was refused. A refused call has changed nothing.
 ///
-/// The order is that of the numbers, 1 to 16; 4 was withdrawn, and 14, 15 and 16 say in its place
-/// which byte is wrong. [`Display`](fmt::Display) gives its sentence.
+/// The order is that of the numbers, 1 to 16 and 24 to 26; 4 was withdrawn, and 14, 15 and 16 say
+/// in its place which byte is wrong. [`Display`](fmt::Display) gives its sentence.
 ///
 /// ```
 /// use logbook::{Place, Refusal};
@@ -86,6 +86,13 @@ pub enum Refusal {
         /// Where the record's last byte is.
         place: Place,
     },
+    /// 24: the URI isn't urn:ep: and four digits, or those, a point and two digits.
+    NotEpoch,
+    /// 25: the data isn't 24 bytes.
+    NotShot,
+    /// 26: a coordinate is over 100,000,000,000 in size, the difference of the epochs over 100,000,
+    /// or a motion over 10,000.
+    OverBound,
     /// A number that this version has no name for, as it came.
     Other {
         /// The number.
@@ -116,6 +123,9 @@ impl Refusal {
             14 => Refusal::EmptyLead { place },
             15 => Refusal::TooLong { place },
             16 => Refusal::PastSize { place },
+            24 => Refusal::NotEpoch,
+            25 => Refusal::NotShot,
+            26 => Refusal::OverBound,
             _ => Refusal::Other { number, place },
         })
     }
@@ -138,11 +148,14 @@ impl Refusal {
             Refusal::EmptyLead { .. } => 14,
             Refusal::TooLong { .. } => 15,
             Refusal::PastSize { .. } => 16,
+            Refusal::NotEpoch => 24,
+            Refusal::NotShot => 25,
+            Refusal::OverBound => 26,
             Refusal::Other { number, .. } => number,
         }
     }
 
-    /// The refusal's place; 1, 10, 11 and 13 name none.
+    /// The refusal's place; 1, 10, 11, 13, 24, 25 and 26 name none.
     pub fn place(&self) -> Option<Place> {
         match *self {
             Refusal::Incomplete { place }
@@ -160,7 +173,10 @@ impl Refusal {
             Refusal::UsedLength
             | Refusal::BadRequest
             | Refusal::NoTypeNumber
-            | Refusal::NotFitting => None,
+            | Refusal::NotFitting
+            | Refusal::NotEpoch
+            | Refusal::NotShot
+            | Refusal::OverBound => None,
         }
     }
 
@@ -212,6 +228,15 @@ impl Refusal {
             Refusal::PastSize { .. } => {
                 "the byte there is the last one of its record, \
                  and it says that the record's type goes on"
+            }
+            Refusal::NotEpoch => {
+                "the URI names no epoch: it isn't urn:ep: and four digits, \
+                 or those, a point and two digits"
+            }
+            Refusal::NotShot => "the data isn't a shot's: that has 24 bytes",
+            Refusal::OverBound => {
+                "a coordinate is over 100,000,000,000 in size, \
+                 the difference of the epochs over 100,000, or a motion over 10,000"
             }
             Refusal::Other { .. } => "this version has no name for that number",
         }

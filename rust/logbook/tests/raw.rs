@@ -4,7 +4,8 @@ mod common;
 
 use common::{morning, FREE, UUID};
 use logbook::raw::{
-    self, Appended, Erased, Item, Reading, Row, Started, UriAnswer, Wiped, IMPLIED_NAMES,
+    self, Appended, Erased, Item, Motion, Point, Reading, Row, Shifted, Started, Triple, UriAnswer,
+    Wiped, IMPLIED_NAMES,
 };
 use logbook::Refusal;
 
@@ -208,4 +209,50 @@ fn uris_of_rows() {
         assert_eq!(uri(bad), answer(13, 0, 0, 0));
     }
     assert_eq!(raw::uri(144, 145, row(1, 0, 0)), answer(1, 0, 0, 0));
+}
+
+/// What a refused shift answers: all is 0 but the number.
+fn not_shifted(refusal: usize) -> Shifted {
+    let (x, y, z) = (0.0, 0.0, 0.0);
+    Shifted {
+        refusal,
+        place: 0,
+        epoch: 0,
+        position: Triple { x: 0, y: 0, z: 0 },
+        point: Point { x, y, z },
+        motion: Motion { x, y, z },
+    }
+}
+
+#[test]
+fn shifting() {
+    let motion = Triple { x: 1, y: -2, z: 3 };
+    let position = Triple { x: -4, y: 5, z: -6 };
+    let data = b"\xFF\xFF\xFF\xFF\xFF\xFF\xFF\xFC\0\0\0\0\0\0\0\x05\
+                 \xFF\xFF\xFF\xFF\xFF\xFF\xFF\xFA";
+    let shifted = Shifted {
+        epoch: 201_750,
+        position,
+        point: Point {
+            x: -390.0,
+            y: 480.0,
+            z: -570.0,
+        },
+        motion: Motion {
+            x: 100.0,
+            y: -200.0,
+            z: 300.0,
+        },
+        ..not_shifted(0)
+    };
+    let shift = |uri: &[u8], data: &[u8], asked| raw::shift(uri, data, asked, motion);
+    assert_eq!(shift(b"urn:ep:2017.50", data, 201_760), shifted);
+    assert_eq!(shift(b"urn:ep:2017.5", data, 201_760), not_shifted(24));
+    assert_eq!(
+        shift(b"urn:ep:2017.50", &data[1..], 201_760),
+        not_shifted(25)
+    );
+    assert_eq!(shift(b"urn:ep:2017.50", data, 301_751), not_shifted(26));
+    assert_eq!(shift(b"", b"", i64::MIN), not_shifted(24));
+    assert_eq!(shift(b"urn:ep:2017", b"", i64::MIN), not_shifted(25));
 }

@@ -3,7 +3,7 @@
 mod common;
 
 use common::{morning, FREE, UUID};
-use logbook::{check, Logbook, Place, Reading, Refusal};
+use logbook::{check, shift, Epoch, Logbook, Place, Reading, Refusal, Triple};
 
 /// What a check says of a header with these bytes behind it.
 fn behind_header(rest: &[u8]) -> Refusal {
@@ -241,6 +241,24 @@ fn not_fitting() -> Result<(), Refusal> {
 }
 
 #[test]
+fn shots_that_are_not_shifted() {
+    let motion = |x| Triple { x, y: 0, z: 0 };
+    let shift = |uri: &str, data: &[u8], x| shift(uri, data, Epoch(201_000), motion(x));
+    let reason = "the URI names no epoch: it isn't urn:ep: and four digits, \
+                  or those, a point and two digits";
+    let refused = shift("urn:ep:2010.5", &[0; 24], 0);
+    says(refused.unwrap_err(), 24, None, reason);
+    let reason = "the data isn't a shot's: that has 24 bytes";
+    let refused = shift("urn:ep:2010", &[0; 23], 0);
+    says(refused.unwrap_err(), 25, None, reason);
+    let reason = "a coordinate is over 100,000,000,000 in size, \
+                  the difference of the epochs over 100,000, or a motion over 10,000";
+    let refused = shift("urn:ep:2010", &[0; 24], 10_001);
+    says(refused.unwrap_err(), 26, None, reason);
+    assert!(shift("urn:ep:2010", &[0; 24], 10_000).is_ok());
+}
+
+#[test]
 fn a_refusal_ends_the_items() -> Result<(), Refusal> {
     let mut buffer = [0; 200];
     let log = morning(&mut buffer)?;
@@ -254,7 +272,7 @@ fn a_refusal_ends_the_items() -> Result<(), Refusal> {
 }
 
 #[test]
-fn there_are_fifteen() {
+fn there_are_eighteen() {
     assert_eq!(Refusal::from_number(0, Place(0)), None);
     let numbers = (1..=100).filter(|&number| {
         let refusal = Refusal::from_number(number, Place(7)).expect("a refusal");
@@ -264,13 +282,13 @@ fn there_are_fifteen() {
     let numbers: Vec<usize> = numbers.collect();
     assert_eq!(
         numbers,
-        [1, 2, 3, 5, 6, 7, 8, 9, 10, 11, 12, 13, 14, 15, 16]
+        [1, 2, 3, 5, 6, 7, 8, 9, 10, 11, 12, 13, 14, 15, 16, 24, 25, 26]
     );
 }
 
 #[test]
 fn a_number_without_a_name_is_kept() {
-    for number in [4, 17, usize::MAX] {
+    for number in [4, 17, 23, 27, usize::MAX] {
         let place = Place(7);
         says(
             Refusal::Other { number, place },
