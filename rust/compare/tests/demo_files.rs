@@ -10,7 +10,7 @@ const SMALL: usize = 1_000;
 #[test]
 fn prefixes_and_changes_agree() {
     let files = demo();
-    assert!(files.len() >= 4, "the demonstration has four files");
+    assert!(files.len() >= 5, "the demonstration has five files");
     let mut tally = Tally::default();
     for (name, file) in &files {
         check(name.clone(), file, &mut tally);
