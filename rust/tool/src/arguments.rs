@@ -1,9 +1,28 @@
-//! A command's arguments: those that count by their order, and options with a value.
+//! A command's arguments: those that count by their order, options with a value, and switches.
 
 use crate::trouble::Trouble;
 use std::ffi::{OsStr, OsString};
 use std::os::unix::ffi::OsStrExt;
 use std::path::Path;
+
+/// The options that a command knows, each with its dashes.
+#[derive(Clone, Copy)]
+pub struct Known {
+    /// Those that take a value.
+    pub options: &'static [&'static str],
+    /// Those that take none.
+    pub switches: &'static [&'static str],
+}
+
+impl Known {
+    /// An option of this name, and whether it is a switch.
+    fn find(&self, name: &[u8]) -> Option<(&'static str, bool)> {
+        let options = self.options.iter().map(|option| (*option, false));
+        let switches = self.switches.iter().map(|switch| (*switch, true));
+        let mut all = options.chain(switches);
+        all.find(|(known, _)| known.as_bytes() == name)
+    }
+}
 
 #[derive(Debug)]
 pub struct Arguments {
@@ -13,12 +32,8 @@ pub struct Arguments {
 }
 
 impl Arguments {
-    /// Sorts what is given; `known` has the options, each with its dashes. Behind `--` nothing is
-    /// an option. `-` alone never is.
-    pub fn sort(
-        given: impl Iterator<Item = OsString>,
-        known: &[&'static str],
-    ) -> Result<Arguments, Trouble> {
+    /// Sorts what is given. Behind `--` nothing is an option. `-` alone never is.
+    pub fn sort(given: impl Iterator<Item = OsString>, known: Known) -> Result<Arguments, Trouble> {
         let mut sorted = Arguments {
             ordered: Vec::new(),
             options: Vec::new(),
@@ -40,12 +55,12 @@ impl Arguments {
         Ok(sorted)
     }
 
-    /// Takes up `--name VALUE` or `--name=VALUE`.
+    /// Takes up `--name VALUE` or `--name=VALUE`, or a switch, whose value is empty.
     fn option(
         &mut self,
         argument: &OsStr,
         rest: &mut impl Iterator<Item = OsString>,
-        known: &[&'static str],
+        known: Known,
     ) -> Result<(), Trouble> {
         let bytes = argument.as_bytes();
         let equals = bytes.iter().position(|byte| *byte == b'=');
@@ -56,15 +71,19 @@ impl Arguments {
             ),
             None => (bytes, None),
         };
-        let Some(name) = known.iter().find(|known| known.as_bytes() == name) else {
+        let Some((name, is_switch)) = known.find(name) else {
             return Err(Trouble::Usage(format!(
                 "{} isn't an option here",
                 argument.to_string_lossy()
             )));
         };
-        let value = joined.map(OsStr::to_os_string).or_else(|| rest.next());
+        let value = match (is_switch, joined) {
+            (true, None) => Some(OsString::new()),
+            (true, Some(_)) => return Err(Trouble::Usage(format!("{name} takes no value"))),
+            (false, _) => joined.map(OsStr::to_os_string).or_else(|| rest.next()),
+        };
         let value = value.ok_or_else(|| Trouble::Usage(format!("{name} takes a value")))?;
-        if self.value(name).is_some() {
+        if self.is_given(name) {
             return Err(Trouble::Usage(format!("{name} is given twice")));
         }
         self.options.push((name, value));
@@ -93,6 +112,11 @@ impl Arguments {
         let found = self.options.iter().find(|(option, _)| *option == name);
         found.map(|(_, value)| value.as_bytes())
     }
+
+    /// Whether an option or a switch is given.
+    pub fn is_given(&self, name: &str) -> bool {
+        self.value(name).is_some()
+    }
 }
 
 /// A type number. One that is too great for the library's argument stays too great.
@@ -110,6 +134,34 @@ pub fn place(given: &[u8]) -> Result<logbook::Place, Trouble> {
     let parsed = digits(given, "PLACE")?.parse();
     let place = parsed.map_err(|_| Trouble::Usage(format!("PLACE is at most {}", usize::MAX)))?;
     Ok(logbook::Place(place))
+}
+
+/// An epoch.
+pub fn epoch(given: &[u8]) -> Result<logbook::Epoch, Trouble> {
+    let text = std::str::from_utf8(given).ok();
+    let epoch = text.and_then(|text| text.parse().ok());
+    let advice = "--to takes a whole number of years, or one, a point and two digits";
+    epoch.ok_or_else(|| Trouble::Usage(advice.into()))
+}
+
+/// A motion.
+pub fn motion(given: &[u8]) -> Result<logbook::Triple, Trouble> {
+    let numbers: Option<Vec<i64>> = given.split(|byte| *byte == b',').map(whole).collect();
+    match numbers.as_deref() {
+        Some(&[x, y, z]) => Ok(logbook::Triple { x, y, z }),
+        _ => Err(Trouble::Usage(
+            "--motion takes three whole numbers of 64 bits with commas between".into(),
+        )),
+    }
+}
+
+/// A whole number, with `-` or without a sign.
+fn whole(given: &[u8]) -> Option<i64> {
+    let text = std::str::from_utf8(given).ok()?;
+    if text.starts_with('+') {
+        return None;
+    }
+    text.parse().ok()
 }
 
 fn digits<'a>(given: &'a [u8], name: &str) -> Result<&'a str, Trouble> {

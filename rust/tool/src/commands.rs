@@ -1,8 +1,8 @@
 //! The commands.
 
-use crate::arguments::{self, hexadecimal, Arguments};
+use crate::arguments::{self, hexadecimal, Arguments, Known};
 use crate::trouble::Trouble;
-use crate::{file, help, show, uuid};
+use crate::{file, help, shift, show, uuid};
 use logbook::{raw, Logbook, Place, Refusal};
 use std::borrow::Cow;
 use std::ffi::OsString;
@@ -23,7 +23,10 @@ pub struct Command {
     pub details: &'static str,
     /// Whether it changes a file that is there.
     pub is_change: bool,
+    /// Its options that take a value.
     options: &'static [&'static str],
+    /// Its options that take none.
+    switches: &'static [&'static str],
     /// How many arguments it takes, options aside.
     count: RangeInclusive<usize>,
     run: fn(&Arguments, &mut dyn Write) -> Done,
@@ -41,6 +44,7 @@ Writes `started`, the UUID and the used length, with a TAB between.
 ",
         is_change: false,
         options: &["--uuid", "--free"],
+        switches: &[],
         count: 1..=1,
         run: new,
     },
@@ -54,6 +58,7 @@ length, or `refused`, number and place. A longer file gets `refused`, 1 and 0.
 ",
         is_change: false,
         options: &[],
+        switches: &[],
         count: 1..=1,
         run: list,
     },
@@ -69,6 +74,7 @@ Writes `appended`, the entry's place and the used length, with a TAB between.
 ",
         is_change: true,
         options: &["--hex"],
+        switches: &[],
         count: 2..=3,
         run: append,
     },
@@ -82,6 +88,7 @@ Writes `assigned`, the assignment's place and the used length, with a TAB betwee
 ",
         is_change: true,
         options: &[],
+        switches: &[],
         count: 3..=3,
         run: assign,
     },
@@ -94,6 +101,7 @@ Writes `removed`, the removal's place and the used length, with a TAB between.
 ",
         is_change: true,
         options: &[],
+        switches: &[],
         count: 2..=2,
         run: remove,
     },
@@ -107,6 +115,7 @@ Writes `erased` and the place of the byte that was set to 00, with a TAB between
 ",
         is_change: true,
         options: &[],
+        switches: &[],
         count: 2..=2,
         run: erase,
     },
@@ -120,6 +129,7 @@ Writes `wiped` and how many bytes were changed, with a TAB between.
 ",
         is_change: true,
         options: &["--limit"],
+        switches: &[],
         count: 2..=2,
         run: wipe,
     },
@@ -133,6 +143,7 @@ such records, `end` and the used length: a line each, with a TAB between.
 ",
         is_change: false,
         options: &[],
+        switches: &[],
         count: 1..=1,
         run: check,
     },
@@ -148,8 +159,31 @@ the number of bytes is written. Where the logbook is refused, the record's first
 ",
         is_change: false,
         options: &[],
+        switches: &[],
         count: 1..=1,
         run: self::show,
+    },
+    Command {
+        name: "shift",
+        usage: "shift FILE --to EPOCH --motion X,Y,Z [--csv]",
+        summary: "writes the shots of a logbook, moved to another epoch",
+        details: "\
+EPOCH is a whole number of years, or one, a point and two digits. X, Y and Z are the motion, whole
+numbers of tenths of a millimetre a year. FILE stays as it is.
+Writes place, number, epoch, own x, y and z in tenths of a millimetre, and moved x, y and z in
+micrometres of each live entry that is neither header nor assignment, with a TAB between, then `end`
+and the used length, or `refused`, number and place.
+An entry that can't be moved gets place, number, `refused`, the refusal's number and its URI: 24
+where the URI names no epoch, 25 where the data isn't 24 bytes, 26 where a figure is over its bound.
+Then standard error has the counts, and with a 25 or 26 the exit status is 1.
+With --csv commas are between, the fields' names come first, every line has the URI, and there is no
+last line: where the logbook is refused, standard error says so.
+",
+        is_change: false,
+        options: &["--to", "--motion"],
+        switches: &["--csv"],
+        count: 1..=1,
+        run: self::shift,
     },
 ];
 
@@ -181,7 +215,11 @@ pub fn run(mut given: impl Iterator<Item = OsString>, out: &mut dyn Write) -> Do
 
 impl Command {
     fn run(&self, given: impl Iterator<Item = OsString>, out: &mut dyn Write) -> Done {
-        let arguments = Arguments::sort(given, self.options)?;
+        let known = Known {
+            options: self.options,
+            switches: self.switches,
+        };
+        let arguments = Arguments::sort(given, known)?;
         if arguments.help {
             return help::command(self, out).map_err(Trouble::Output);
         }
@@ -303,4 +341,17 @@ fn check(arguments: &Arguments, out: &mut dyn Write) -> Done {
 fn show(arguments: &Arguments, out: &mut dyn Write) -> Done {
     let bytes = file::read(arguments.file(), raw::USED_LIMIT)?;
     show::show(&bytes, out)
+}
+
+fn shift(arguments: &Arguments, out: &mut dyn Write) -> Done {
+    let (Some(to), Some(motion)) = (arguments.value("--to"), arguments.value("--motion")) else {
+        return Err(Trouble::Usage("--to and --motion are both needed".into()));
+    };
+    let wanted = shift::Wanted {
+        to: arguments::epoch(to)?,
+        motion: arguments::motion(motion)?,
+        is_csv: arguments.is_given("--csv"),
+    };
+    let bytes = file::read(arguments.file(), raw::USED_LIMIT)?;
+    shift::shift(&bytes, &wanted, out)
 }

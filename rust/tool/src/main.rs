@@ -1,10 +1,11 @@
-//! `logbook`: starts, lists, changes and shows Lozizol 0.5 logbooks in files, over the proved
-//! library. `logbook --help` has the commands.
+//! `logbook`: starts, lists, changes and shows Lozizol 0.5 logbooks in files, and moves their shots
+//! to another epoch, over the proved library. `logbook --help` has the commands.
 
 mod arguments;
 mod commands;
 mod file;
 mod help;
+mod shift;
 mod show;
 mod trouble;
 mod uuid;

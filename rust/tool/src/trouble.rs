@@ -33,8 +33,7 @@ impl Trouble {
         if self.is_quiet() {
             return self.status();
         }
-        // Nothing is left to be done where standard error can't be written.
-        let _ = writeln!(io::stderr(), "logbook: {self}");
+        remark(self);
         self.status()
     }
 
@@ -54,6 +53,12 @@ impl Trouble {
             _ => ExitCode::from(WRONG),
         }
     }
+}
+
+/// Says a sentence on standard error.
+pub fn remark(sentence: &dyn fmt::Display) {
+    // Nothing is left to be done where standard error can't be written.
+    let _ = writeln!(io::stderr(), "logbook: {sentence}");
 }
 
 impl fmt::Display for Trouble {

@@ -12,7 +12,7 @@ use std::os::unix::fs::{chown, symlink, MetadataExt, PermissionsExt};
 use std::process::{Command, Stdio};
 
 /// A line of each command that takes a file which is there.
-const LINES: [&[&str]; 8] = [
+const LINES: [&[&str]; 9] = [
     &["list", "FILE"],
     &["append", "FILE", "a:", "P9"],
     &["assign", "FILE", "7", "a:"],
@@ -21,6 +21,7 @@ const LINES: [&[&str]; 8] = [
     &["wipe", "FILE", "123"],
     &["check", "FILE"],
     &["show", "FILE"],
+    &["shift", "FILE", "--to", "2017", "--motion", "0,0,0"],
 ];
 
 /// Runs each line with a file's name in it, and holds all to one answer.
@@ -207,8 +208,12 @@ fn a_closed_pipe() {
         bytes.extend_from_slice(b"\x01\x02");
     }
     folder.write("morning.loz", &bytes);
-    for command in ["list", "show"] {
-        run_until_closed(&folder, &[command, "morning.loz"]).done("");
+    for line in [
+        &["list", "morning.loz"][..],
+        &["show", "morning.loz"],
+        &["shift", "morning.loz", "--to", "2017", "--motion", "0,0,0"],
+    ] {
+        run_until_closed(&folder, line).done("");
     }
 }
 
@@ -224,6 +229,7 @@ fn a_full_device() {
     for line in [
         &["list", "morning.loz"][..],
         &["append", "morning.loz", "a:"],
+        &["shift", "morning.loz", "--to", "2017", "--motion", "0,0,0"],
         &["--help"],
     ] {
         let ended = folder

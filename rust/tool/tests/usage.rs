@@ -6,8 +6,8 @@ use common::{Folder, Ran};
 use std::ffi::OsStr;
 use std::os::unix::ffi::OsStrExt;
 
-const COMMANDS: [&str; 9] = [
-    "new", "list", "append", "assign", "remove", "erase", "wipe", "check", "show",
+const COMMANDS: [&str; 10] = [
+    "new", "list", "append", "assign", "remove", "erase", "wipe", "check", "show", "shift",
 ];
 
 /// Runs a line of words in a folder.
