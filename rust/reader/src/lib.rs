@@ -1,11 +1,12 @@
 //! An independent implementation of the Lozizol 0.5 logbook, written from the
-//! papers alone: 01 (the scope, which decides), 02 \[1\] (the one change
-//! request that has landed) and 000 (the format).
+//! papers alone: 01 (the scope, which decides), 02 \[1\], \[2\] and \[11\] (the
+//! change requests that have landed) and 000 (the format).
 //!
 //! A logbook is a lent buffer and a used length. [`start`] makes one,
 //! [`Reading::step`] reads it item by item, [`append`] and [`assign`] write at
 //! its end, [`erase`] and [`wipe`] change what is there, [`listing`] writes
-//! the text of the listing program. A refused call changes nothing.
+//! the text of the listing program. A refused call changes nothing. Apart from
+//! any logbook, [`shift`] moves a shot to another epoch.
 //!
 //! # Readings of the papers
 //!
@@ -72,11 +73,42 @@
 //! 23. *The places of 14, 15 and 16* are those of bytes, counted as any other
 //!     place. "The fourth byte" is the integer's own fourth, so a type's is
 //!     found behind the whole size: 81 00 FF FF FF FF at 109 is 15 at 114.
+//! 24. *A shift* (02 \[11\], to the last point) takes a shot as its URI and its
+//!     data. No logbook is walked and no place is asked for, so only 24, 25 and
+//!     26 are known, and the place is 0 for each.
+//! 25. *The URI of an epoch* is compared byte by byte (point 14) and from end to
+//!     end: URN:ep:2010 is 24, and so is the form with any byte before or behind
+//!     it. A digit is a byte 30 to 39 and a point is 2E. None, one or three
+//!     digits behind the point, or a sign before the year, are 24.
+//! 26. *The two digits* are hundredths of a year, not a month: urn:ep:2017.50 is
+//!     201,750. Without them they are 00, so that urn:ep:2017 and urn:ep:2017.00
+//!     are one epoch. Any digits do, 0000 to 9999.99.
+//! 27. *"Signed"* is two's complement; FF eight times is -1. The coordinates
+//!     stand one behind the other, and the motions go with them in that order.
+//! 28. *"In size"* is the distance from 0, on either side, and "at most" allows
+//!     the bound itself. It is that of each coordinate and of each motion, not
+//!     the length of the three together.
+//! 29. *"At most 100,000"* is said of the difference. The asked epoch and the
+//!     shot's have no bound of their own: from 9999.99 to 8999.99 is allowed, and
+//!     so is an asked epoch below 0.
+//! 30. *A figure* in 26 is one that is given, or the difference; each is judged
+//!     also where it wouldn't count, as the difference is with no motion and
+//!     the motion with no difference. Point and motion in micrometres have no
+//!     bound. Which figure it was is not told.
+//! 31. *"100 times the position plus motion times difference"* is 100 times the
+//!     position, and to that the product is added. The example says so: 700 and
+//!     720 move a point 504,000, not 50,400,000.
+//! 32. *"Each motion 100 times the given one"* doesn't look at the difference:
+//!     it stays a yearly one, with the given sign.
+//! 33. *The doubles* are whole micrometres and at most 10,001,000,000,000 in
+//!     size, below 2^53. So [`Shifted`] holds the whole numbers they equal; the
+//!     sign that a double's zero can have is no part of that.
 
 #![forbid(unsafe_code)]
 #![warn(missing_docs)]
 
 mod calls;
+mod epoch;
 mod header;
 mod integer;
 mod listing;
@@ -87,6 +119,7 @@ mod register;
 mod uri;
 
 pub use calls::{append, assign, erase, start, wipe, Appended};
+pub use epoch::{shift, Shifted};
 pub use listing::listing;
 pub use reading::{Item, Kind, Reading};
 pub use refusal::Refusal;

@@ -1,14 +1,15 @@
-//! The numbered refusals (01, Refusals and their order; 02 \[1\]).
+//! The numbered refusals (01, Refusals and their order; 02 \[1\] and \[11\]).
 
-/// A refusal: its number in 01's table and its place (0 where none is shown).
+/// A refusal: its number in the papers and its place (0 where none is shown).
 ///
 /// 01, Refusals: "every refusal returns its number and a place". 02 \[1\]: "4
-/// is withdrawn; 14, 15, 16 stand where it stood, in that order".
+/// is withdrawn; 14, 15, 16 stand where it stood, in that order". 02 \[11\] adds
+/// 24, 25 and 26, "in order, place 0".
 #[derive(Clone, Copy, PartialEq, Eq, Debug)]
 pub struct Refusal {
-    /// 01, Refusals; 02 \[1\]: the number, 1 to 3 or 5 to 16.
+    /// 01, Refusals; 02 \[1\] and \[11\]: the number, 1 to 3, 5 to 16 or 24 to 26.
     pub number: u8,
-    /// 01, Refusals: the place, 0 where the table shows none.
+    /// 01, Refusals: the place, 0 where none is shown.
     pub place: usize,
 }
 
@@ -21,6 +22,12 @@ impl Refusal {
     pub(crate) const NO_TYPE: Refusal = Refusal::new(11, 0);
     /// The reading doesn't fit.
     pub(crate) const READING: Refusal = Refusal::new(13, 0);
+    /// Another URI than one of an epoch.
+    pub(crate) const NOT_EPOCH: Refusal = Refusal::new(24, 0);
+    /// Data not 24 bytes.
+    pub(crate) const NOT_SHOT: Refusal = Refusal::new(25, 0);
+    /// A figure over its bound.
+    pub(crate) const OVER_BOUND: Refusal = Refusal::new(26, 0);
 
     const fn new(number: u8, place: usize) -> Refusal {
         Refusal { number, place }

@@ -1,4 +1,4 @@
-//! The cases of papers 01 and 02 [1], run through the public calls.
+//! The cases of papers 01 and 02 [1] and [11], run through the public calls.
 
 use reader::*;
 
@@ -924,4 +924,451 @@ fn any_bytes_and_any_reading_end_in_an_answer() {
         assert!(seen[number] > 0, "{number}");
     }
     assert_eq!(seen[4], 0); // withdrawn
+}
+
+/// The data of a shot.
+fn shot(position: [i64; 3]) -> Vec<u8> {
+    position.map(i64::to_be_bytes).concat()
+}
+
+/// The epoch that a URI gives, by a shot that stays where it is.
+fn epoch(uri: &[u8], asked: i64) -> Result<i128, Refusal> {
+    shift(uri, &shot([0; 3]), asked, [0; 3]).map(|shifted| shifted.epoch)
+}
+
+/// How a shot of epoch 2010 is refused.
+fn refusal_of_shift(position: [i64; 3], asked: i64, motion: [i64; 3]) -> Option<Refusal> {
+    shift(b"urn:ep:2010", &shot(position), asked, motion).err()
+}
+
+const OVER: Option<Refusal> = Some(Refusal {
+    number: 26,
+    place: 0,
+});
+
+#[test]
+fn a_shot_is_moved() {
+    // 700 and 720 move a point 504,000: seven years of 72 millimetres.
+    let data = shot([5, -5, 0]);
+    let moved = Shifted {
+        epoch: 201_000,
+        position: [5, -5, 0],
+        point: [504_500, -504_500, 0],
+        motion: [72_000, -72_000, 0],
+    };
+    let answer = shift(b"urn:ep:2010", &data, 201_700, [720, -720, 0]);
+    assert_eq!(answer, Ok(moved));
+    // 720 and 700 as well, and back: the difference has the other sign.
+    let moved = shift(b"urn:ep:2010", &data, 201_720, [700, 0, 0]).unwrap();
+    assert_eq!(moved.point, [504_500, -500, 0]);
+    let moved = shift(b"urn:ep:2017", &data, 201_000, [720, -720, 1]).unwrap();
+    assert_eq!(moved.point, [-503_500, 503_500, -700]);
+    assert_eq!(moved.motion, [72_000, -72_000, 100]);
+    // A hundredth of a year is a micrometre for each tenth of a millimetre.
+    let moved = shift(b"urn:ep:2016.99", &data, 201_700, [1, -1, 7]).unwrap();
+    assert_eq!((moved.epoch, moved.point), (201_699, [501, -501, 7]));
+    // No difference and no motion: the point stays, the motion is yearly.
+    let moved = shift(b"urn:ep:2017.00", &data, 201_700, [1, -1, 7]).unwrap();
+    assert_eq!(
+        (moved.point, moved.motion),
+        ([500, -500, 0], [100, -100, 700])
+    );
+    let moved = shift(b"urn:ep:2010", &data, 201_700, [0; 3]).unwrap();
+    assert_eq!((moved.point, moved.motion), ([500, -500, 0], [0; 3]));
+}
+
+#[test]
+fn shots_of_a_logbook_are_moved_from_the_epoch_in_force() {
+    let mut buf = book(&[&[0; 100]]);
+    let data = shot([1_000, 2_000, -3_000]);
+    let morning = append(&mut buf, 109, b"urn:ep:2010", &data).unwrap();
+    let noon = assign(&mut buf, morning.used, 2, b"urn:ep:2017").unwrap();
+    let later = append(&mut buf, noon.used, b"urn:ep:2017", &data).unwrap();
+    let list = entries(&buf[..later.used]);
+    let points: Vec<_> = list
+        .iter()
+        .map(|(_, uri, data)| shift(uri, data, 201_700, [720, 0, -720]))
+        .map(|answer| answer.map(|shifted| shifted.point))
+        .collect();
+    let expected = [
+        refused(24, 0), // the header
+        refused(24, 0), // the assignments
+        Ok([604_000, 200_000, -804_000]),
+        refused(24, 0),
+        Ok([100_000, 200_000, -300_000]),
+    ];
+    assert_eq!(points, expected);
+}
+
+#[test]
+fn uris_of_an_epoch() {
+    for (uri, hundredths) in [
+        ("urn:ep:2010", 201_000),
+        ("urn:ep:2017", 201_700),
+        ("urn:ep:2017.00", 201_700),
+        ("urn:ep:2017.01", 201_701),
+        ("urn:ep:2017.10", 201_710),
+        ("urn:ep:2017.50", 201_750),
+        ("urn:ep:2017.99", 201_799),
+        ("urn:ep:0000", 0),
+        ("urn:ep:0000.00", 0),
+        ("urn:ep:0000.01", 1),
+        ("urn:ep:0001", 100),
+        ("urn:ep:0123.45", 12_345),
+        ("urn:ep:9999", 999_900),
+        ("urn:ep:9999.99", 999_999),
+    ] {
+        let answer = epoch(uri.as_bytes(), hundredths);
+        assert_eq!(answer, Ok(i128::from(hundredths)), "{uri}");
+    }
+    for year in 0..10_000 {
+        let uri = format!("urn:ep:{year:04}");
+        let hundredths = 100 * year;
+        assert_eq!(
+            epoch(uri.as_bytes(), hundredths),
+            Ok(i128::from(hundredths))
+        );
+        for part in [0, 1, 9, 10, 99, year % 100] {
+            let uri = format!("{uri}.{part:02}");
+            let answer = epoch(uri.as_bytes(), hundredths);
+            assert_eq!(answer, Ok(i128::from(hundredths + part)), "{uri}");
+        }
+    }
+}
+
+#[test]
+fn other_uris() {
+    for uri in [
+        &b""[..],
+        b"urn:ep:",
+        b"urn:ep:201",
+        b"urn:ep:20100",
+        b"urn:ep:2010.",
+        b"urn:ep:2010.5",
+        b"urn:ep:2010.500",
+        b"urn:ep:2010.50.",
+        b"urn:ep:2010,50",
+        b"urn:ep:201050",
+        b"urn:ep:2010050",
+        b"urn:ep:201.50",
+        b"urn:ep:201.500",
+        b"urn:ep:20100.50",
+        b"urn:ep:.50",
+        b"urn:ep:....",
+        b"urn:ep:2010...",
+        b"urn:ep:+201",
+        b"urn:ep:-201",
+        b"urn:ep:-2010",
+        b"urn:ep:2010.+5",
+        b"urn:ep:2010.-5",
+        b"urn:ep:2e10",
+        b"urn:ep:0x10",
+        b"urn:ep:2010.5e",
+        b"urn:ep: 2010",
+        b" urn:ep:2010",
+        b"urn:ep:2010 ",
+        b"urn:ep:2010\0",
+        b"urn:ep:2010\n",
+        b"urn:ep:2010?",
+        b"urn:ep:2010#",
+        b"urn:ep:2010.50#",
+        b"urn:ep:%32010",
+        b"urn:ep:<2017>",
+        b"urn:ep:20%1",
+        b"urn:ep:urn:ep:2010",
+        b"URN:ep:2010",
+        b"urn:EP:2010",
+        b"urn:epoch:2010",
+        b"urn:ep2010",
+        b"urn:ep::2010",
+        b"urn:2010",
+        b"2010",
+        b"2010.50",
+        b"urn:lozizol:type",
+        b"urn:lozizol:header",
+        b"urn:lozizol:deleted",
+        "urn:ep:٢٠١٠".as_bytes(), // digits, but not bytes 30 to 39
+        "urn:ep:２010".as_bytes(),
+        &[b'2'; 300],
+    ] {
+        assert_eq!(epoch(uri, 201_000), refused(24, 0), "{uri:?}");
+    }
+    // Any byte in any place: digits may change, all else may not.
+    for good in [&b"urn:ep:2010"[..], b"urn:ep:2010.50"] {
+        for place in 0..good.len() {
+            let digit = (7..11).contains(&place) || place > 11;
+            for byte in 0..=255 {
+                let mut uri = good.to_vec();
+                uri[place] = byte;
+                let fine = byte == good[place] || digit && byte.is_ascii_digit();
+                // A year may be far from 2010, which is 26 and not 24.
+                let other = epoch(&uri, 201_000) == refused(24, 0);
+                assert_eq!(other, !fine, "{uri:?}");
+            }
+        }
+        for length in 0..good.len() {
+            let fine = length == 11;
+            assert_eq!(epoch(&good[..length], 201_000).is_ok(), fine);
+            assert_eq!(epoch(&good[good.len() - length..], 201_000), refused(24, 0));
+        }
+        for byte in 0..=255 {
+            let behind = [good, &[byte]].concat();
+            assert_eq!(epoch(&behind, 201_000), refused(24, 0));
+            let before = [&[byte], good].concat();
+            assert_eq!(epoch(&before, 201_000), refused(24, 0));
+        }
+    }
+}
+
+#[test]
+fn the_bytes_of_a_shot() {
+    for length in (0..100).chain([255, 256, 280, 65_535]) {
+        let answer = shift(b"urn:ep:2010", &vec![0; length], 201_000, [0; 3]);
+        let moved = Shifted {
+            epoch: 201_000,
+            position: [0; 3],
+            point: [0; 3],
+            motion: [0; 3],
+        };
+        let expected = if length == 24 {
+            Ok(moved)
+        } else {
+            refused(25, 0)
+        };
+        assert_eq!(answer, expected, "{length}");
+    }
+    // The most significant byte first, and its top bit is the sign.
+    for (bytes, value) in [
+        (b"\x00\x00\x00\x00\x00\x00\x00\x00", Some(0)),
+        (b"\x00\x00\x00\x00\x00\x00\x00\x01", Some(1)),
+        (b"\x00\x00\x00\x00\x00\x00\x00\x7F", Some(127)),
+        (b"\x00\x00\x00\x00\x00\x00\x00\x80", Some(128)),
+        (b"\x00\x00\x00\x00\x00\x00\x00\xFF", Some(255)),
+        (b"\x00\x00\x00\x00\x00\x00\x01\x00", Some(256)),
+        (b"\x00\x00\x00\x00\x80\x00\x00\x00", Some(2_147_483_648)),
+        (b"\x00\x00\x00\x17\x48\x76\xE7\xFF", Some(99_999_999_999)),
+        (b"\x00\x00\x00\x17\x48\x76\xE8\x00", Some(100_000_000_000)),
+        (b"\x00\x00\x00\x17\x48\x76\xE8\x01", None),
+        (b"\x00\x00\x00\x20\x00\x00\x00\x00", None),
+        (b"\x01\x00\x00\x00\x00\x00\x00\x00", None),
+        (b"\x7F\xFF\xFF\xFF\xFF\xFF\xFF\xFF", None),
+        (b"\x80\x00\x00\x00\x00\x00\x00\x00", None),
+        (b"\x80\x00\x00\x00\x00\x00\x00\x01", None), // no sign beside a size
+        (b"\x7F\xFF\xFF\xFF\xFF\xFF\xFF\xFE", None),
+        (b"\xFF\xFF\xFF\xE8\xB7\x89\x17\xFF", None),
+        (b"\xFF\xFF\xFF\xE8\xB7\x89\x18\x00", Some(-100_000_000_000)),
+        (b"\xFF\xFF\xFF\xE8\xB7\x89\x18\x01", Some(-99_999_999_999)),
+        (b"\xFF\xFF\xFF\xFF\x7F\xFF\xFF\xFF", Some(-2_147_483_649)),
+        (b"\xFF\xFF\xFF\xFF\xFF\xFF\xFE\xFF", Some(-257)),
+        (b"\xFF\xFF\xFF\xFF\xFF\xFF\xFF\x00", Some(-256)),
+        (b"\xFF\xFF\xFF\xFF\xFF\xFF\xFF\x7F", Some(-129)),
+        (b"\xFF\xFF\xFF\xFF\xFF\xFF\xFF\x80", Some(-128)),
+        (b"\xFF\xFF\xFF\xFF\xFF\xFF\xFF\xFE", Some(-2)),
+        (b"\xFF\xFF\xFF\xFF\xFF\xFF\xFF\xFF", Some(-1)),
+    ] {
+        for axis in 0..3 {
+            let mut data = shot([0; 3]);
+            data[8 * axis..8 * axis + 8].copy_from_slice(bytes);
+            let answer = shift(b"urn:ep:2010", &data, 201_000, [0; 3]);
+            let moved = |value: i128| {
+                let mut position = [0; 3];
+                position[axis] = value;
+                Shifted {
+                    epoch: 201_000,
+                    position,
+                    point: position.map(|coordinate| 100 * coordinate),
+                    motion: [0; 3],
+                }
+            };
+            let expected = value.map_or(refused(26, 0), |value| Ok(moved(value)));
+            assert_eq!(answer, expected, "{bytes:X?}");
+        }
+    }
+    // The three stand in order.
+    let data = b"\x00\x00\x00\x01\x02\x03\x04\x05\
+                 \xFF\xFF\xFF\xFE\x02\x03\x04\x05\
+                 \x00\x00\x00\x00\x0A\x0B\x0C\x0D";
+    let position = [
+        0x01_02_03_04_05,
+        0x02_03_04_05 - 0x02_00_00_00_00,
+        0x0A_0B_0C_0D,
+    ];
+    let moved = shift(b"urn:ep:2010", data, 201_001, [1, 20, -300]).unwrap();
+    assert_eq!(moved.position, position);
+    assert_eq!(moved.motion, [100, 2_000, -30_000]);
+    let [first, second, third] = position.map(|coordinate| 100 * coordinate);
+    assert_eq!(moved.point, [first + 1, second + 20, third - 300]);
+}
+
+#[test]
+fn the_order_of_a_shifts_refusals() {
+    let (good, other) = (&b"urn:ep:2010"[..], &b"urn:ep:201"[..]);
+    let (zero, far) = (shot([0; 3]), shot([i64::MAX, 0, i64::MIN]));
+    for (asked, motion) in [
+        (201_000, [0; 3]),
+        (i64::MAX, [0; 3]),
+        (201_000, [i64::MIN; 3]),
+        (i64::MIN, [i64::MAX; 3]),
+    ] {
+        let fine = asked == 201_000 && motion == [0; 3];
+        // 24 before all.
+        for data in [&b""[..], &zero[..23], &zero, &far, &far.repeat(2)] {
+            assert_eq!(shift(other, data, asked, motion), refused(24, 0));
+        }
+        // 25 before 26.
+        for data in [&b""[..], &zero[1..], &far[..23], &far.repeat(2)] {
+            assert_eq!(shift(good, data, asked, motion), refused(25, 0));
+        }
+        // Then each figure.
+        assert_eq!(shift(good, &far, asked, motion), refused(26, 0));
+        let answer = shift(good, &zero, asked, motion);
+        assert_eq!(answer.is_ok(), fine);
+        assert!(fine || answer == refused(26, 0));
+    }
+}
+
+#[test]
+fn the_bounds_of_a_shift() {
+    let sized = |bound: i64| {
+        [
+            (bound - 1, None),
+            (bound, None),
+            (bound + 1, OVER),
+            (1 - bound, None),
+            (-bound, None),
+            (-bound - 1, OVER),
+            (i64::MAX, OVER),
+            (i64::MIN, OVER),
+            (i64::MIN + 1, OVER),
+        ]
+    };
+    for axis in 0..3 {
+        for (value, refusal) in sized(100_000_000_000) {
+            let mut position = [0; 3];
+            position[axis] = value;
+            assert_eq!(refusal_of_shift(position, 201_000, [0; 3]), refusal);
+            // With the other two at their bound: the three are judged apart.
+            position = [100_000_000_000; 3];
+            position[axis] = value;
+            let motion = [10_000, -10_000, 10_000];
+            assert_eq!(refusal_of_shift(position, 301_000, motion), refusal);
+        }
+        for (value, refusal) in sized(10_000) {
+            let mut motion = [0; 3];
+            motion[axis] = value;
+            // Without a difference too.
+            for asked in [201_000, 201_001, 301_000, 101_000] {
+                assert_eq!(refusal_of_shift([0; 3], asked, motion), refusal);
+            }
+            motion = [-10_000; 3];
+            motion[axis] = value;
+            assert_eq!(refusal_of_shift([1; 3], 101_000, motion), refusal);
+        }
+    }
+    // The difference, without a motion too; the asked epoch has no bound.
+    for (uri, own) in [
+        (&b"urn:ep:2010"[..], 201_000),
+        (b"urn:ep:2010.01", 201_001),
+        (b"urn:ep:0000", 0),
+        (b"urn:ep:0999.99", 99_999),
+        (b"urn:ep:9999.99", 999_999),
+    ] {
+        for (difference, refusal) in sized(100_000) {
+            let asked = i64::saturating_add(own, difference);
+            for motion in [[0; 3], [1, -1, 0], [10_000; 3]] {
+                let answer = shift(uri, &shot([0; 3]), asked, motion);
+                assert_eq!(answer.err(), refusal, "{own} {asked}");
+            }
+        }
+    }
+    for (uri, asked) in [
+        (&b"urn:ep:0000"[..], -100_000),
+        (b"urn:ep:9999.99", 1_099_999),
+    ] {
+        assert!(epoch(uri, asked).is_ok());
+    }
+    assert_eq!(epoch(b"urn:ep:0000", -100_001), refused(26, 0));
+    assert_eq!(epoch(b"urn:ep:0000", 201_000), refused(26, 0));
+    assert_eq!(epoch(b"urn:ep:9999", 201_000), refused(26, 0));
+    // All at their bounds: below 2^53, so that a double holds it.
+    let (most, large) = (10_001_000_000_000, 1 << 53);
+    assert!(most < large);
+    for (sign, asked) in [(1, 301_000), (-1, 301_000), (1, 101_000), (-1, 101_000)] {
+        let turned = if asked > 201_000 { sign } else { -sign };
+        let data = shot([sign * 100_000_000_000; 3]);
+        let moved = shift(b"urn:ep:2010", &data, asked, [turned * 10_000; 3]).unwrap();
+        assert_eq!(moved.point, [i128::from(sign) * most; 3]);
+        assert_eq!(moved.motion, [i128::from(turned) * 1_000_000; 3]);
+        let moved = shift(b"urn:ep:2010", &data, asked, [turned * -10_000; 3]).unwrap();
+        assert_eq!(moved.point, [i128::from(sign) * 9_999_000_000_000; 3]);
+    }
+}
+
+#[test]
+fn the_ends_of_the_arguments() {
+    let ends = [i64::MIN, i64::MIN + 1, -1, 0, 1, i64::MAX - 1, i64::MAX];
+    let is_end = |value: i64| !(-1..=1).contains(&value);
+    for uri in [&b"urn:ep:0000"[..], b"urn:ep:0000.01", b"urn:ep:9999.99"] {
+        for coordinate in ends {
+            for asked in ends {
+                for yearly in ends {
+                    let data = shot([coordinate, 0, coordinate]);
+                    let answer = shift(uri, &data, asked, [0, yearly, yearly]);
+                    let far = uri == b"urn:ep:9999.99" || is_end(asked);
+                    let over = far || is_end(coordinate) || is_end(yearly);
+                    assert_eq!(answer.is_err(), over);
+                    assert!(!over || answer == refused(26, 0));
+                }
+            }
+        }
+    }
+}
+
+#[test]
+fn random_shifts_keep_the_formula() {
+    let mut random = Random(0xA076_1D64_78BD_642F);
+    // Within the bound mostly, sometimes just past it or anywhere.
+    let figure = |random: &mut Random, bound: i64| {
+        let within = (random.below(2 * bound as usize + 1)) as i64 - bound;
+        let anywhere = (random.below(usize::MAX) << 11) as i64;
+        match random.below(40) {
+            0 => random.pick(&[bound + 1, -bound - 1]),
+            1 => anywhere,
+            2..=5 => random.pick(&[bound, -bound, 0, 1, -1]),
+            _ => within,
+        }
+    };
+    let mut moved = 0;
+    for _ in 0..100_000 {
+        let own = random.below(1_000_000) as i64;
+        let uri = format!("urn:ep:{:04}.{:02}", own / 100, own % 100);
+        let position = [0; 3].map(|_| figure(&mut random, 100_000_000_000));
+        let motion = [0; 3].map(|_| figure(&mut random, 10_000));
+        let asked = figure(&mut random, 100_000).saturating_add(own);
+        let data = shot(position);
+        let over = position.iter().any(|p| p.unsigned_abs() > 100_000_000_000)
+            || motion.iter().any(|m| m.unsigned_abs() > 10_000)
+            || asked.abs_diff(own) > 100_000;
+        let answer = shift(uri.as_bytes(), &data, asked, motion);
+        if over {
+            assert_eq!(answer, refused(26, 0));
+            continue;
+        }
+        moved += 1;
+        let shifted = answer.unwrap();
+        assert_eq!(shifted.epoch, i128::from(own));
+        assert_eq!(shifted.position, position.map(i128::from));
+        for axis in 0..3 {
+            // Within the bounds nothing passes an i64.
+            let point = 100 * position[axis] + motion[axis] * (asked - own);
+            assert_eq!(shifted.point[axis], i128::from(point));
+            assert_eq!(shifted.motion[axis], i128::from(100 * motion[axis]));
+            assert!(point.unsigned_abs() < 1 << 53);
+        }
+        // The short form of a whole year gives the same.
+        if let Some(short) = uri.strip_suffix(".00") {
+            assert_eq!(shift(short.as_bytes(), &data, asked, motion), answer);
+        }
+    }
+    assert!(moved > 50_000 && moved < 90_000, "{moved}");
 }
