@@ -3,6 +3,7 @@
 
 use compare::files::{check, check_changes, demo};
 use compare::series::{Counts, Series};
+use compare::shifts;
 use compare::tally::Tally;
 
 const SEED: u64 = 1;
@@ -29,8 +30,12 @@ fn main() {
     for round in 0..100 {
         Series::draw(SEED, round).check(&mut counts);
     }
+    let mut shifted = shifts::Counts::default();
+    for round in 0..5_000 {
+        shifts::round(SEED, round, &mut shifted);
+    }
     println!(
-        "{} calls compared, {} series in both orders",
+        "{} calls compared, {} series in both orders, {shifted}",
         tally.calls(),
         counts.series
     );

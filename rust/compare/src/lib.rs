@@ -3,7 +3,8 @@
 //!
 //! [`books`] and [`hostile`] make logbooks, [`requests`] and [`readings`] make
 //! what is asked of them, [`sides`] asks both implementations in one form, and
-//! [`case`] compares what comes back. [`calls`], [`series`] and [`files`] are
+//! [`case`] compares what comes back. [`shifts`] does all of this for the shift,
+//! which takes no logbook. [`calls`], [`series`], [`files`] and [`shifts`] have
 //! the runs that the tests and the example `small` share; [`shapes`] is for the
 //! benchmarks.
 //!
@@ -24,5 +25,6 @@ pub mod requests;
 pub mod series;
 pub mod settings;
 pub mod shapes;
+pub mod shifts;
 pub mod sides;
 pub mod tally;

@@ -6,7 +6,7 @@ use std::fmt;
 pub const CALLS: [&str; 7] = ["start", "append", "assign", "erase", "wipe", "step", "list"];
 /// The column of a 7 that is due to the request; 7 itself is one of the walk.
 pub const FULL_FOR_REQUEST: usize = 17;
-/// Column 0 is a result, 1 to 16 are the refusals; 4 was withdrawn.
+/// Column 0 is a result, 1 to 16 are the refusals of these calls; 4 was withdrawn.
 pub const COLUMNS: usize = FULL_FOR_REQUEST + 1;
 
 /// Counts by call and column.
