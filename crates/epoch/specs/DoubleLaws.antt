@@ -35,12 +35,15 @@ is-value (negsuc n) = refl
 -- a whole number below 2 ^ 53 is a float's value
 pub has-value : (s : Bool) (n : ℕ) → n < 2 ^ 53 → HasValue (wholeOf s n) s n 1
 has-value s n h = round-exact binary64 s n 1 n (low binary64) (zero-lt-suc 0) h
-    (subst (λ (x : ℕ). n * 2 ^ low binary64 < 2 ^ x) (add-comm (suc (emax binary64)) (low binary64)) (lt-of-lt-of-le (shl-lt 53 (low binary64) h) (pow-mono {i = 53 + low binary64} {j = 1024 + low binary64} (lit≤ tt))))
+    (subst (λ (x : ℕ). n * 2 ^ low binary64 < 2 ^ x) (add-comm (suc (emax binary64)) (low binary64))
+    (lt-of-lt-of-le (shl-lt 53 (low binary64) h) (pow-mono {i = 53 + low binary64} {j = 1024 + low binary64} (lit≤ tt))))
     (sym (mul-one (n * 2 ^ low binary64)))
 
 -- (a c) (b d) ≡ (a b) (c d)
 cross : (a c b d : ℕ) → a * c * (b * d) ≡ a * b * (c * d)
-cross a c b d = mul-assoc a c (b * d) ∙ ap (λ (x : ℕ). a * x) (sym (mul-assoc c b d) ∙ ap (λ (x : ℕ). x * d) (mul-comm c b) ∙ mul-assoc b c d) ∙ sym (mul-assoc a b (c * d))
+cross a c b d =
+    mul-assoc a c (b * d) ∙ ap (λ (x : ℕ). a * x) (sym (mul-assoc c b d) ∙ ap (λ (x : ℕ). x * d) (mul-comm c b) ∙ mul-assoc b c d)
+    ∙ sym (mul-assoc a b (c * d))
 
 -- ---- the product
 mul-value : (x y : Float) (s t : Bool) (a b : ℕ) → HasValue x s a 1 → HasValue y t b 1 → mul binary64 x y ≡ wholeOf (unlike s t) (a * b)
@@ -72,8 +75,10 @@ sub-mul a b c = mul-comm (a - b) c ∙ mul-sub c a b ∙ ap (λ (x : ℕ). x - c
 sum-scale : (s t : Bool) (a b c : ℕ) → 0 < c → sum binary64 s (a * c) t (b * c) c ≡ sum binary64 s a t b 1
 unfolding sum
 sum-scale s t a b c h =
-    ap (λ (z : Bool). cond (Bool·beq s t) (round binary64 s (a * c + b * c) c) (cond z (round binary64 t (b * c - a * c) c) (round binary64 (s && ltb (b * c) (a * c)) (a * c - b * c) c))) (ltb-scale a b c h)
-    ∙ ap (λ (z : Bool). cond (Bool·beq s t) (round binary64 s (a * c + b * c) c) (cond (ltb a b) (round binary64 t (b * c - a * c) c) (round binary64 (s && z) (a * c - b * c) c))) (ltb-scale b a c h)
+    ap (λ (z : Bool). cond (Bool·beq s t) (round binary64 s (a * c + b * c) c)
+    (cond z (round binary64 t (b * c - a * c) c) (round binary64 (s && ltb (b * c) (a * c)) (a * c - b * c) c))) (ltb-scale a b c h)
+    ∙ ap (λ (z : Bool). cond (Bool·beq s t) (round binary64 s (a * c + b * c) c)
+    (cond (ltb a b) (round binary64 t (b * c - a * c) c) (round binary64 (s && z) (a * c - b * c) c))) (ltb-scale b a c h)
     ∙ ap (λ (z : Float). cond (Bool·beq s t) z (cond (ltb a b) (round binary64 t (b * c - a * c) c) (round binary64 (s && ltb b a) (a * c - b * c) c)))
     (round-same binary64 s (a * c + b * c) c (a + b) 1 h (zero-lt-suc 0) (mul-one (a * c + b * c) ∙ sym (add-mul a b c)))
     ∙ ap (λ (z : Float). cond (Bool·beq s t) (round binary64 s (a + b) 1) (cond (ltb a b) z (round binary64 (s && ltb b a) (a * c - b * c) c)))
@@ -90,17 +95,22 @@ add-value (fin r m e) (inf q) s t a b u v = absurd v
 add-value (fin r m e) (fin q n d) s t a b u v =
     ap (λ (z : Bool). sum binary64 z (m * up e * down d) q (n * up d * down e) (down e * down d)) (u .0)
     ∙ ap (λ (z : Bool). sum binary64 s (m * up e * down d) z (n * up d * down e) (down e * down d)) (v .0)
-    ∙ ap (λ (z : ℕ). sum binary64 s z t (n * up d * down e) (down e * down d)) (ap (λ (z : ℕ). z * down d) (sym (mul-one (m * up e)) ∙ u .1) ∙ mul-assoc a (down e) (down d))
-    ∙ ap (λ (z : ℕ). sum binary64 s (a * (down e * down d)) t z (down e * down d)) (ap (λ (z : ℕ). z * down e) (sym (mul-one (n * up d)) ∙ v .1) ∙ mul-assoc b (down d) (down e) ∙ ap (λ (z : ℕ). b * z) (mul-comm (down d) (down e)))
+    ∙ ap (λ (z : ℕ). sum binary64 s z t (n * up d * down e) (down e * down d))
+    (ap (λ (z : ℕ). z * down d) (sym (mul-one (m * up e)) ∙ u .1) ∙ mul-assoc a (down e) (down d))
+    ∙ ap (λ (z : ℕ). sum binary64 s (a * (down e * down d)) t z (down e * down d))
+    (ap (λ (z : ℕ). z * down e) (sym (mul-one (n * up d)) ∙ v .1) ∙ mul-assoc b (down d) (down e) ∙ ap (λ (z : ℕ). b * z) (mul-comm (down d) (down e)))
     ∙ sum-scale s t a b (down e * down d) (mul-pos (down-pos e) (down-pos d))
 
 -- the sum of two whole numbers, the first of them no negative zero, is the float of their sum
 pub sum-whole : (s t : Bool) (a b : ℕ) → (s ≡ true → 0 < a) → sum binary64 s a t b 1 ≡ ofInt binary64 (valueOf s a +ℤ valueOf t b)
 unfolding sum ofInt
 sum-whole false false a b h = refl
-sum-whole false true a zero h = ap (λ (z : Bool). cond z (round binary64 true (0 - a) 1) (round binary64 false (a - 0) 1)) (le-ltb a 0 (omega arith)) ∙ ap (λ (n : ℕ). round binary64 false n 1) (sub-zero a ∙ sym (add-zero a))
+sum-whole false true a zero h =
+    ap (λ (z : Bool). cond z (round binary64 true (0 - a) 1) (round binary64 false (a - 0) 1)) (le-ltb a 0 (omega arith))
+    ∙ ap (λ (n : ℕ). round binary64 false n 1) (sub-zero a ∙ sym (add-zero a))
 sum-whole false true a (suc b) h = by-order a (suc b)
-    (λ l. ap (λ (z : Bool). cond z (round binary64 true (suc b - a) 1) (round binary64 false (a - suc b) 1)) (lt-ltb a (suc b) l) ∙ ap (λ (n : ℕ). round binary64 true n 1) (down-one l)
+    (λ l. ap (λ (z : Bool). cond z (round binary64 true (suc b - a) 1) (round binary64 false (a - suc b) 1)) (lt-ltb a (suc b) l)
+    ∙ ap (λ (n : ℕ). round binary64 true n 1) (down-one l)
     ∙ ap (λ (z : Bool). ofInt binary64 (cond z (negsuc (suc b - suc a)) (pos (a - suc b)))) (sym (lt-ltb a (suc b) l)))
     (λ l. ap (λ (z : Bool). cond z (round binary64 true (suc b - a) 1) (round binary64 false (a - suc b) 1)) (le-ltb a (suc b) l)
     ∙ ap (λ (z : Bool). ofInt binary64 (cond z (negsuc (suc b - suc a)) (pos (a - suc b)))) (sym (le-ltb a (suc b) l)))
@@ -115,7 +125,8 @@ sum-whole true false (suc a) b h = by-order b (suc a)
     (λ l. ap (λ (z : Bool). cond (ltb (suc a) b) (round binary64 false (b - suc a) 1) (round binary64 z (suc a - b) 1)) (le-ltb b (suc a) l)
     ∙ by-order (suc a) b
     (λ k. ap (λ (z : Bool). cond z (round binary64 false (b - suc a) 1) (round binary64 false (suc a - b) 1)) (lt-ltb (suc a) b k))
-    (λ k. ap (λ (z : Bool). cond z (round binary64 false (b - suc a) 1) (round binary64 false (suc a - b) 1)) (le-ltb (suc a) b k) ∙ ap (λ (n : ℕ). round binary64 false n 1) (level l k))
+    (λ k. ap (λ (z : Bool). cond z (round binary64 false (b - suc a) 1) (round binary64 false (suc a - b) 1)) (le-ltb (suc a) b k)
+    ∙ ap (λ (n : ℕ). round binary64 false n 1) (level l k))
     ∙ ap (λ (z : Bool). ofInt binary64 (cond z (negsuc (suc a - suc b)) (pos (b - suc a)))) (sym (le-ltb b (suc a) l)))
   where
     down-one : b < suc a → suc a - b ≡ suc (suc a - suc b)
@@ -123,7 +134,9 @@ sum-whole true false (suc a) b h = by-order b (suc a)
 
     level : suc a ≤ b → b ≤ suc a → suc a - b ≡ b - suc a
     level l k = omega (arith, l, k)
-sum-whole true true (suc a) zero h = ap (λ (n : ℕ). round binary64 true n 1) (up-one a) ∙ ap (λ (z : Bool). ofInt binary64 (cond z (negsuc (suc a - suc 0)) (pos (0 - suc a)))) (sym (lt-ltb 0 (suc a) (zero-lt-suc a)))
+sum-whole true true (suc a) zero h =
+    ap (λ (n : ℕ). round binary64 true n 1) (up-one a)
+    ∙ ap (λ (z : Bool). ofInt binary64 (cond z (negsuc (suc a - suc 0)) (pos (0 - suc a)))) (sym (lt-ltb 0 (suc a) (zero-lt-suc a)))
   where
     up-one : (n : ℕ) → suc n + 0 ≡ suc (suc n - suc 0)
     up-one n = omega arith
@@ -132,7 +145,8 @@ sum-whole true true (suc a) (suc b) h = ap (λ (n : ℕ). round binary64 true n 
     up-two : (n m : ℕ) → suc n + suc m ≡ suc (suc (n + m))
     up-two n m = omega arith
 
-pub add-whole : (s t : Bool) (a b : ℕ) → a < 2 ^ 53 → b < 2 ^ 53 → (s ≡ true → 0 < a) → add binary64 (wholeOf s a) (wholeOf t b) ≡ ofInt binary64 (valueOf s a +ℤ valueOf t b)
+pub add-whole : (s t : Bool) (a b : ℕ) → a < 2 ^ 53 → b < 2 ^ 53 → (s ≡ true → 0 < a)
+    → add binary64 (wholeOf s a) (wholeOf t b) ≡ ofInt binary64 (valueOf s a +ℤ valueOf t b)
 add-whole s t a b h k p = add-value (wholeOf s a) (wholeOf t b) s t a b (has-value s a h) (has-value t b k) ∙ sum-whole s t a b p
 
 pub value-mul : (s t : Bool) (a b : ℕ) → valueOf s a *ℤ valueOf t b ≡ valueOf (unlike s t) (a * b)

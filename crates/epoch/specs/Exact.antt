@@ -42,7 +42,8 @@ module _ (p m d : ℤ) (hp : natAbs p ≤ coordinateLimit) (hm : natAbs m ≤ mo
         hundredfold = hundredfold p (omega (arith, hp));
         product =
             subst (λ (x : Float). HasValue x (unlike (negative m) (negative d)) (natAbs (m *ℤ d)) 1) (sym (product m d (omega (arith, hm)) (omega (arith, hd))))
-            (subst (λ (n : ℕ). HasValue (wholeOf (unlike (negative m) (negative d)) (natAbs m * natAbs d)) (unlike (negative m) (negative d)) n 1) (sym (abs-mul m d))
+            (subst (λ (n : ℕ). HasValue (wholeOf (unlike (negative m) (negative d)) (natAbs m * natAbs d)) (unlike (negative m) (negative d)) n 1)
+            (sym (abs-mul m d))
             (has-value (unlike (negative m) (negative d)) (natAbs m * natAbs d) small));
         sum = sum-exact p m d (omega (arith, hp)) (omega (arith, hm)) (omega (arith, hd)) (omega (arith, hp)) small;
       }

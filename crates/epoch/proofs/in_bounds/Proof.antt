@@ -19,7 +19,13 @@ is-within-requires-2 c κs = search needs
 
 returns : tie.Need-returns
 unfolding inBounds
-returns c = rw (c .before .before .is-within .ensures, c .before .size-of .ensures ∙ ap natAbs (toZ-ofZ w64 (c .before .before .before .args .difference) (c .before .before .before .fits .difference)), c .is-within2 .ensures)
+returns c =
+    let s = c .before .before .before in
+    rw (
+      c .before .before .is-within .ensures,
+      c .before .size-of .ensures ∙ ap natAbs (toZ-ofZ w64 (s .args .difference) (s .fits .difference)),
+      c .is-within2 .ensures,
+    )
 
 pub in-bounds-spec : {M : Type 1} → statement M
 in-bounds-spec =

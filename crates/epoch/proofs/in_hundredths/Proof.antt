@@ -43,16 +43,31 @@ part-number-from-end-2 : tie.Need-part-number-from-end-2
 part-number-from-end-2 c = search needs
 
 number-from-requires-2 : tie.Need-number-from-requires-2
-number-from-requires-2 c κs = (years-below _ _ (length-take-le 4 (c .before .before .before .before .before .before .before .before .before .args .text .now) (omega (arith, c .before .before .before .before .before .before .before .before .before .pre))) (sym (ap numberOf (sym (c .before .before .years .given .1)) ∙ c .before .before .before .before .number-from .ensures)), omega (arith, length-take-le 2 (drop 5 (c .before .before .before .before .before .before .before .before .before .args .text .now)) (omega (arith, length-drop 5 (c .before .before .before .before .before .before .before .before .before .args .text .now), c .before .before .before .before .before .before .before .before .before .pre))))
+number-from-requires-2 c κs =
+    let t = c .before .before .before .before .before .before .before .before .before .args .text .now in
+    let l = c .before .before .before .before .before .before .before .before .before .pre in (
+      years-below _ _ (length-take-le 4 t (omega (arith, l)))
+          (sym (ap numberOf (sym (c .before .before .years .given .1)) ∙ c .before .before .before .before .number-from .ensures)),
+      omega (arith, length-take-le 2 (drop 5 t) (omega (arith, length-drop 5 t, l))),
+    )
 
 enum-told : tie.Need-enum-told
 enum-told c = search needs
 
 returns-2 : tie.Need-returns-2
-returns-2 c = c .number-from2 .ensures ∙ ap (λ (o : Option ℕ). numberBehind o (take 2 (drop 5 (c .before .before .before .before .before .before .before .before .before .before .args .text .now)))) (ap numberOf (sym (c .before .before .before .years .given .1)) ∙ c .before .before .before .before .before .number-from .ensures) ∙ sym (text-hundredths _ (c .before .before .before .before .before .before .before .before .before .before .pre) (c .before .before .before .before .before .before .before .if1 .left))
+returns-2 c =
+    let s = c .before .before .before .before .before .before .before .before .before .before in
+    c .number-from2 .ensures
+    ∙ ap (λ (o : Option ℕ). numberBehind o (take 2 (drop 5 (s .args .text .now))))
+    (ap numberOf (sym (c .before .before .before .years .given .1)) ∙ c .before .before .before .before .before .number-from .ensures)
+    ∙ sym (text-hundredths _ (s .pre) (c .before .before .before .before .before .before .before .if1 .left))
 
 returns-3 : tie.Need-returns-3
-returns-3 c = ap (λ (o : Option ℕ). numberBehind o (take 2 (drop 5 (c .before .before .before .before .before .before .before .args .text .now)))) (ap numberOf (sym (c .enum-told .given .1)) ∙ c .before .before .number-from .ensures) ∙ sym (text-hundredths _ (c .before .before .before .before .before .before .before .pre) (c .before .before .before .before .if1 .left))
+returns-3 c =
+    let s = c .before .before .before .before .before .before .before in
+    ap (λ (o : Option ℕ). numberBehind o (take 2 (drop 5 (s .args .text .now))))
+    (ap numberOf (sym (c .enum-told .given .1)) ∙ c .before .before .number-from .ensures)
+    ∙ sym (text-hundredths _ (s .pre) (c .before .before .before .before .if1 .left))
 
 pub in-hundredths-spec : {M : Type 1} → statement M
 in-hundredths-spec =

@@ -16,7 +16,14 @@ size-of-requires-3 : tie.Need-size-of-requires-3
 size-of-requires-3 c κs = search needs
 
 returns : tie.Need-returns
-returns c = rw (c .before .before .before .before .size-of .ensures ∙ ap natAbs (field-back (c .before .before .before .before .before .before .args .t .x) (c .before .before .before .before .before .struct-told .given .0 .1)), c .before .before .size-of2 .ensures ∙ ap natAbs (field-back (c .before .before .before .before .before .before .args .t .y) (c .before .before .before .before .before .struct-told .given .1 .0 .1)), c .size-of3 .ensures ∙ ap natAbs (field-back (c .before .before .before .before .before .before .args .t .z) (c .before .before .before .before .before .struct-told .given .1 .1 .0 .1)))
+returns c =
+    let t = c .before .before .before .before .before .before .args .t in
+    let f = c .before .before .before .before .before .struct-told .given in
+    rw (
+      c .before .before .before .before .size-of .ensures ∙ ap natAbs (field-back (t .x) (f .0 .1)),
+      c .before .before .size-of2 .ensures ∙ ap natAbs (field-back (t .y) (f .1 .0 .1)),
+      c .size-of3 .ensures ∙ ap natAbs (field-back (t .z) (f .1 .1 .0 .1)),
+    )
 
 pub is-within-spec : {M : Type 1} → statement M
 is-within-spec =

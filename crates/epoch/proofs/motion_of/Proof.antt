@@ -18,11 +18,14 @@ yearly-requires-3 : tie.Need-yearly-requires-3
 yearly-requires-3 c κs = search needs
 
 returns : tie.Need-returns
-returns c = λ i. record {
-  x = (c .before .before .before .before .yearly .ensures ∙ ap (λ (z : ℤ). doubleOf (yearlyOf z)) (field-back (c .before .before .before .before .before .before .args .motion .x) (c .before .before .before .before .before .struct-told .given .0 .1))) i;
-  y = (c .before .before .yearly2 .ensures ∙ ap (λ (z : ℤ). doubleOf (yearlyOf z)) (field-back (c .before .before .before .before .before .before .args .motion .y) (c .before .before .before .before .before .struct-told .given .1 .0 .1))) i;
-  z = (c .yearly3 .ensures ∙ ap (λ (z : ℤ). doubleOf (yearlyOf z)) (field-back (c .before .before .before .before .before .before .args .motion .z) (c .before .before .before .before .before .struct-told .given .1 .1 .0 .1))) i;
-}
+returns c =
+    let m = c .before .before .before .before .before .before .args .motion in
+    let f = c .before .before .before .before .before .struct-told .given in
+    λ i. record {
+      x = (c .before .before .before .before .yearly .ensures ∙ ap (λ (z : ℤ). doubleOf (yearlyOf z)) (field-back (m .x) (f .0 .1))) i;
+      y = (c .before .before .yearly2 .ensures ∙ ap (λ (z : ℤ). doubleOf (yearlyOf z)) (field-back (m .y) (f .1 .0 .1))) i;
+      z = (c .yearly3 .ensures ∙ ap (λ (z : ℤ). doubleOf (yearlyOf z)) (field-back (m .z) (f .1 .1 .0 .1))) i;
+    }
 
 pub motion-of-spec : {M : Type 1} → statement M
 motion-of-spec = tie.close (tie.spec yearly-requires yearly-requires-2 yearly-requires-3 returns)

@@ -12,21 +12,22 @@ int-to-float-result : tie.Need-int-to-float-result
 int-to-float-result c = range-back (c .before .args .position) (c .before .fits .position) (omega (arith, c .before .pre .0))
 
 int-to-float-result-2 : tie.Need-int-to-float-result-2
-int-to-float-result-2 c = range-back (c .before .before .args .motion) (c .before .before .fits .motion) (omega (arith, c .before .before .pre .1 .0))
+int-to-float-result-2 c = let s = c .before .before in range-back (s .args .motion) (s .fits .motion) (omega (arith, s .pre .1 .0))
 
 int-to-float-result-3 : tie.Need-int-to-float-result-3
-int-to-float-result-3 c = range-back (c .before .before .before .args .difference) (c .before .before .before .fits .difference) (omega (arith, c .before .before .before .pre .1 .1))
+int-to-float-result-3 c = let s = c .before .before .before in range-back (s .args .difference) (s .fits .difference) (omega (arith, s .pre .1 .1))
 
 returns : tie.Need-returns
 returns c =
     let s = c .before .before .before in
+    let a = s .args in
     rw (
       hundred,
-      toZ-ofZ w64 (s .args .position) (s .fits .position),
-      toZ-ofZ w64 (s .args .motion) (s .fits .motion),
-      toZ-ofZ w64 (s .args .difference) (s .fits .difference),
+      toZ-ofZ w64 (a .position) (s .fits .position),
+      toZ-ofZ w64 (a .motion) (s .fits .motion),
+      toZ-ofZ w64 (a .difference) (s .fits .difference),
     )
-    (steps-exact (s .args .position) (s .args .motion) (s .args .difference) (s .pre .0) (s .pre .1 .0) (s .pre .1 .1) .sum)
+    (steps-exact (a .position) (a .motion) (a .difference) (s .pre .0) (s .pre .1 .0) (s .pre .1 .1) .sum)
 
 pub moved-spec : {M : Type 1} → statement M
 moved-spec =

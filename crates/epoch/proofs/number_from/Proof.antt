@@ -22,19 +22,31 @@ shared-slice-read-b : tie.Need-shared-slice-read-b Inv-loop μ-loop
 shared-slice-read-b c = search needs
 
 returns : tie.Need-returns Inv-loop μ-loop
-returns c = sym (c .before .before .before .loop .inv .0 ∙ number-low (c .before .before .before .loop .n) _ (c .before .before .before .loop .i) (c .before .before .loop-test .taken) (c .if1 .taken))
+returns c =
+    let l = c .before .before .before .loop in
+    sym (l .inv .0 ∙ number-low (l .n) _ (l .i) (c .before .before .loop-test .taken) (c .if1 .taken))
 
 returns-2 : tie.Need-returns-2 Inv-loop μ-loop
-returns-2 c = sym (c .before .before .before .before .loop .inv .0 ∙ number-high (c .before .before .before .before .loop .n) _ (c .before .before .before .before .loop .i) (c .before .before .before .loop-test .taken) (c .before .if1 .left) (c .if2 .taken))
+returns-2 c =
+    let l = c .before .before .before .before .loop in
+    sym (l .inv .0 ∙ number-high (l .n) _ (l .i) (c .before .before .before .loop-test .taken) (c .before .if1 .left) (c .if2 .taken))
 
 mul-n : tie.Need-mul-n Inv-loop μ-loop
-mul-n c = let h : c .before .before .before .before .loop .n * 10 + 0 < 100000000 = digits-room (c .before .before .before .before .loop .n) 0 (c .before .before .before .before .loop .i) (omega (arith, c .before .before .before .loop-test .taken, c .before .before .before .before .before .pre .1)) (omega arith) (c .before .before .before .before .loop .inv .1) in record { fits = omega (arith, h) }
+mul-n c =
+    let l = c .before .before .before .before .loop in
+    let few : l .i < 4 = omega (arith, c .before .before .before .loop-test .taken, c .before .before .before .before .before .pre .1) in
+    let h : l .n * 10 + 0 < 100000000 = digits-room (l .n) 0 (l .i) few (omega arith) (l .inv .1) in
+    record { fits = omega (arith, h) }
 
 cast-n : tie.Need-cast-n Inv-loop μ-loop
 cast-n c = search needs
 
 add-n : tie.Need-add-n Inv-loop μ-loop
-add-n c = let h : c .before .before .before .before .loop .n * 10 + 9 < 100000000 = digits-room (c .before .before .before .before .loop .n) 9 (c .before .before .before .before .loop .i) (omega (arith, c .before .before .before .loop-test .taken, c .before .before .before .before .before .pre .1)) (omega arith) (c .before .before .before .before .loop .inv .1) in record { fits = omega (arith, h, c .if2 .left) }
+add-n c =
+    let l = c .before .before .before .before .loop in
+    let few : l .i < 4 = omega (arith, c .before .before .before .loop-test .taken, c .before .before .before .before .before .pre .1) in
+    let h : l .n * 10 + 9 < 100000000 = digits-room (l .n) 9 (l .i) few (omega arith) (l .inv .1) in
+    record { fits = omega (arith, h, c .if2 .left) }
 
 add-i : tie.Need-add-i Inv-loop μ-loop
 add-i c = search needs
@@ -43,7 +55,11 @@ loop-less : tie.Need-loop-less Inv-loop μ-loop
 loop-less c = omega (arith, c .before .before .before .loop-test .taken)
 
 loop-again : tie.Need-loop-again Inv-loop μ-loop
-loop-again c = (c .before .before .before .before .loop .inv .0 ∙ number-on (c .before .before .before .before .loop .n) _ (c .before .before .before .before .loop .i) (c .before .before .before .loop-test .taken) (c .before .if1 .left) (c .if2 .left), room-on 10000 10 (c .before .before .before .before .loop .n) _ (c .before .before .before .before .loop .i) (omega (arith, c .if2 .left)) (c .before .before .before .before .loop .inv .1))
+loop-again c =
+    let l = c .before .before .before .before .loop in (
+      l .inv .0 ∙ number-on (l .n) _ (l .i) (c .before .before .before .loop-test .taken) (c .before .if1 .left) (c .if2 .left),
+      room-on 10000 10 (l .n) _ (l .i) (omega (arith, c .if2 .left)) (l .inv .1),
+    )
 
 returns-3 : tie.Need-returns-3 Inv-loop μ-loop
 returns-3 c = sym (c .before .loop .inv .0 ∙ number-end (c .before .loop .n) _ (c .before .loop .i) (c .loop-test .left))

@@ -34,10 +34,16 @@ moved-requires-3 c κs = search needs
 returns : tie.Need-returns
 returns c =
     let s = c .before .before .before .before .before .before .before .before .before in
+    let p = s .args .position in
+    let m = s .args .motion in
+    let d = s .args .difference in
+    let e = s .fits .difference in
+    let f = c .before .before .before .before .before .before .before .before .struct-told .given in
+    let g = c .before .before .before .before .before .before .before .struct-told2 .given in
     λ i. record {
-      x = at-fields (s .args .position .x) (s .args .motion .x) (s .args .difference) (c .before .before .before .before .before .before .before .before .struct-told .given .0 .1) (c .before .before .before .before .before .before .before .struct-told2 .given .0 .1) (s .fits .difference) (c .before .before .before .before .before .before .moved .ensures) i;
-      y = at-fields (s .args .position .y) (s .args .motion .y) (s .args .difference) (c .before .before .before .before .before .before .before .before .struct-told .given .1 .0 .1) (c .before .before .before .before .before .before .before .struct-told2 .given .1 .0 .1) (s .fits .difference) (c .before .before .before .moved2 .ensures) i;
-      z = at-fields (s .args .position .z) (s .args .motion .z) (s .args .difference) (c .before .before .before .before .before .before .before .before .struct-told .given .1 .1 .0 .1) (c .before .before .before .before .before .before .before .struct-told2 .given .1 .1 .0 .1) (s .fits .difference) (c .moved3 .ensures) i;
+      x = at-fields (p .x) (m .x) d (f .0 .1) (g .0 .1) e (c .before .before .before .before .before .before .moved .ensures) i;
+      y = at-fields (p .y) (m .y) d (f .1 .0 .1) (g .1 .0 .1) e (c .before .before .before .moved2 .ensures) i;
+      z = at-fields (p .z) (m .z) d (f .1 .1 .0 .1) (g .1 .1 .0 .1) e (c .moved3 .ensures) i;
     }
 
 pub point-at-spec : {M : Type 1} → statement M

@@ -1,6 +1,6 @@
 -- The bytes from here on, behind what was gathered, come to the whole; then by the first bit.
 use mathlib.Core.Path.{_≡_, refl, sym, ap, _∙_}
-use Prim.Native.Nat.{_+_, _-_, _*_, _^_, _≤_, _<_}
+use Prim.Native.Nat.{_-_, _*_, _^_, _≤_, _<_}
 use native.Mathlib.Omega.{arith}
 use lib.ListN.{length, drop}
 use lib.Dec.{lit<}
@@ -22,7 +22,10 @@ loop-holds : tie.Need-loop-holds Inv-loop μ-loop
 loop-holds c = (refl, (lit< tt, search needs))
 
 mul-v : tie.Need-mul-v Inv-loop μ-loop
-mul-v c = let h : c .before .loop .v * 256 + 255 < 2 ^ 64 = bytes-room (c .before .loop .v) (c .before .loop .i) (omega (arith, c .loop-test .taken, c .before .before .pre)) (c .before .loop .inv .1 .0) in record { fits = omega (arith, h) }
+mul-v c =
+    let l = c .before .loop in
+    let few : l .i < 8 = omega (arith, c .loop-test .taken, c .before .before .pre) in
+    record { fits = omega (arith, bytes-room (l .v) (l .i) few (l .inv .1 .0)) }
 
 shared-slice-read-v : tie.Need-shared-slice-read-v Inv-loop μ-loop
 shared-slice-read-v c = search needs
@@ -31,7 +34,10 @@ cast-v : tie.Need-cast-v Inv-loop μ-loop
 cast-v c = omega (arith, c .shared-slice-known .given (c .before .before .loop .i))
 
 add-v : tie.Need-add-v Inv-loop μ-loop
-add-v c = let h : c .before .before .loop .v * 256 + 255 < 2 ^ 64 = bytes-room (c .before .before .loop .v) (c .before .before .loop .i) (omega (arith, c .before .loop-test .taken, c .before .before .before .pre)) (c .before .before .loop .inv .1 .0) in record { fits = omega (arith, h, c .shared-slice-known .given (c .before .before .loop .i)) }
+add-v c =
+    let l = c .before .before .loop in
+    let few : l .i < 8 = omega (arith, c .before .loop-test .taken, c .before .before .before .pre) in
+    record { fits = omega (arith, bytes-room (l .v) (l .i) few (l .inv .1 .0), c .shared-slice-known .given (l .i)) }
 
 add-i : tie.Need-add-i Inv-loop μ-loop
 add-i c = search needs
@@ -40,27 +46,41 @@ loop-less : tie.Need-loop-less Inv-loop μ-loop
 loop-less c = omega (arith, c .before .loop-test .taken)
 
 loop-again : tie.Need-loop-again Inv-loop μ-loop
-loop-again c = (c .before .before .loop .inv .0 ∙ gathered-on (c .before .before .loop .v) _ (c .before .before .loop .i) (c .before .loop-test .taken), (room-on 1 256 (c .before .before .loop .v) _ (c .before .before .loop .i) (omega (arith, c .shared-slice-known .given (c .before .before .loop .i))) (c .before .before .loop .inv .1 .0), omega (arith, c .before .loop-test .taken, c .before .before .before .pre)))
+loop-again c =
+    let l = c .before .before .loop in (
+      l .inv .0 ∙ gathered-on (l .v) _ (l .i) (c .before .loop-test .taken),
+      (
+        room-on 1 256 (l .v) _ (l .i) (omega (arith, c .shared-slice-known .given (l .i))) (l .inv .1 .0),
+        omega (arith, c .before .loop-test .taken, c .before .before .before .pre),
+      ),
+    )
 
 cast-result : tie.Need-cast-result Inv-loop μ-loop
 cast-result c = search needs
 
 returns : tie.Need-returns Inv-loop μ-loop
-returns c = sign-clear (c .before .before .loop .v) (c .if1 .taken) ∙ ap signed (sym (c .before .before .loop .inv .0 ∙ gathered-end (c .before .before .loop .v) _ (c .before .before .loop .i) (c .before .loop-test .left)) ∙ gathered-all _)
+returns c =
+    let l = c .before .before .loop in
+    sign-clear (l .v) (c .if1 .taken)
+    ∙ ap signed (sym (l .inv .0 ∙ gathered-end (l .v) _ (l .i) (c .before .loop-test .left)) ∙ gathered-all _)
 
 sub-n : tie.Need-sub-n Inv-loop μ-loop
-sub-n c = bytes-fit (c .before .before .loop .v) (c .before .before .loop .i) (c .before .before .loop .inv .1 .1) (c .before .before .loop .inv .1 .0)
+sub-n c = let l = c .before .before .loop in bytes-fit (l .v) (l .i) (l .inv .1 .1) (l .inv .1 .0)
 
 cast-n : tie.Need-cast-n Inv-loop μ-loop
 cast-n c = search needs
 
 sub-result : tie.Need-sub-result Inv-loop μ-loop
-sub-result c = sign-set-fits (c .before .before .loop .v) (c .if1 .left) (bytes-fit (c .before .before .loop .v) (c .before .before .loop .i) (c .before .before .loop .inv .1 .1) (c .before .before .loop .inv .1 .0))
+sub-result c =
+    let l = c .before .before .loop in
+    sign-set-fits (l .v) (c .if1 .left) (bytes-fit (l .v) (l .i) (l .inv .1 .1) (l .inv .1 .0))
 
 returns-2 : tie.Need-returns-2 Inv-loop μ-loop
-returns-2 c = toZ-ofZ w64 _ (sign-set-fits (c .before .before .loop .v) (c .if1 .left) (bytes-fit (c .before .before .loop .v) (c .before .before .loop .i) (c .before .before .loop .inv .1 .1) (c .before .before .loop .inv .1 .0)))
-    ∙ sign-set (c .before .before .loop .v) (c .if1 .left) (bytes-fit (c .before .before .loop .v) (c .before .before .loop .i) (c .before .before .loop .inv .1 .1) (c .before .before .loop .inv .1 .0))
-    ∙ ap signed (sym (c .before .before .loop .inv .0 ∙ gathered-end (c .before .before .loop .v) _ (c .before .before .loop .i) (c .before .loop-test .left)) ∙ gathered-all _)
+returns-2 c =
+    let l = c .before .before .loop in
+    let f = bytes-fit (l .v) (l .i) (l .inv .1 .1) (l .inv .1 .0) in
+    toZ-ofZ w64 _ (sign-set-fits (l .v) (c .if1 .left) f) ∙ sign-set (l .v) (c .if1 .left) f
+    ∙ ap signed (sym (l .inv .0 ∙ gathered-end (l .v) _ (l .i) (c .before .loop-test .left)) ∙ gathered-all _)
 
 pub read-signed-spec : {M : Type 1} → statement M
 read-signed-spec =

@@ -19,7 +19,9 @@ enum-known-epoch : tie.Need-enum-known-epoch
 enum-known-epoch c = search needs
 
 shift-from-requires : tie.Need-shift-from-requires
-shift-from-requires c κs = epoch-below (c .before .before .before .before .before .before .args .uri .now) _ (sym (ap numberOf (sym (c .before .epoch .given .1)) ∙ c .before .before .before .epoch-of .ensures))
+shift-from-requires c κs =
+    let u = c .before .before .before .before .before .before .args .uri .now in
+    epoch-below u _ (sym (ap numberOf (sym (c .before .epoch .given .1)) ∙ c .before .before .before .epoch-of .ensures))
 
 enum-told : tie.Need-enum-told
 enum-told c = search needs
@@ -27,12 +29,17 @@ enum-told c = search needs
 returns : tie.Need-returns
 returns c =
     let s = c .before .before .before .before .before .before .before in
+    let d = s .args .bytes .now in
+    let m = tripleOf (s .args .motion) in
+    let n = ap numberOf (sym (c .before .before .epoch .given .1)) ∙ c .before .before .before .before .epoch-of .ensures in
     c .shift-from .ensures
-    ∙ ap (λ (z : ℤ). shiftedAs (shiftFrom (c .before .before .epoch .given .0 .0) (s .args .bytes .now) z (tripleOf (s .args .motion)))) (toZ-ofZ w64 (s .args .asked) (s .fits .asked))
-    ∙ ap shiftedAs (sym (shift-named (s .args .uri .now) (s .args .bytes .now) (s .args .asked) (tripleOf (s .args .motion)) _ (sym (ap numberOf (sym (c .before .before .epoch .given .1)) ∙ c .before .before .before .before .epoch-of .ensures))))
+    ∙ ap (λ (z : ℤ). shiftedAs (shiftFrom (c .before .before .epoch .given .0 .0) d z m)) (toZ-ofZ w64 (s .args .asked) (s .fits .asked))
+    ∙ ap shiftedAs (sym (shift-named (s .args .uri .now) d (s .args .asked) m _ (sym n)))
 
 returns-2 : tie.Need-returns-2
-returns-2 c = answer-unnamed (c .before .before .before .before .before .args .uri .now) _ (c .before .before .before .before .before .args .asked) (c .before .before .before .before .before .args .motion) (sym (ap numberOf (sym (c .enum-told .given .1)) ∙ c .before .before .epoch-of .ensures))
+returns-2 c =
+    let a = c .before .before .before .before .before .args in
+    answer-unnamed (a .uri .now) _ (a .asked) (a .motion) (sym (ap numberOf (sym (c .enum-told .given .1)) ∙ c .before .before .epoch-of .ensures))
 
 pub shift-spec : {M : Type 1} → statement M
 shift-spec =

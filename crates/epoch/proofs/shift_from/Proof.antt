@@ -13,7 +13,7 @@ use Rattle.epoch.proofs.shift_from.Statement.{statement}
 use Rattle.epoch.proofs.shift_from.Tie as tie
 
 returns : tie.Need-returns
-returns c = answer-length (c .before .before .args .epoch) _ (c .before .before .args .asked) (c .before .before .args .motion) (c .if1 .taken)
+returns c = let a = c .before .before .args in answer-length (a .epoch) _ (a .asked) (a .motion) (c .if1 .taken)
 
 size-of-requires : tie.Need-size-of-requires
 size-of-requires c κs = search needs
@@ -21,8 +21,9 @@ size-of-requires c κs = search needs
 returns-2 : tie.Need-returns-2
 returns-2 c =
     let s = c .before .before .before .before in
-    answer-far (s .args .epoch) _ (s .args .asked) (s .args .motion) (c .before .before .if1 .left) (s .pre)
-    (omega (arith, c .if2 .taken, c .before .size-of .ensures, ap natAbs (toZ-ofZ w64 (s .args .asked) (s .fits .asked))))
+    let a = s .args in
+    answer-far (a .epoch) _ (a .asked) (a .motion) (c .before .before .if1 .left) (s .pre)
+    (omega (arith, c .if2 .taken, c .before .size-of .ensures, ap natAbs (toZ-ofZ w64 (a .asked) (s .fits .asked))))
 
 position-of-requires : tie.Need-position-of-requires
 position-of-requires c κs = search needs
@@ -33,8 +34,10 @@ cast-difference c = search needs
 sub-difference : tie.Need-sub-difference
 sub-difference c =
     let s = c .before .before .before .before .before in
-    difference-fits (s .args .asked) (s .args .epoch) (s .pre) (s .fits .asked)
-    (omega (arith, c .before .if2 .left, c .before .before .size-of .ensures, ap natAbs (toZ-ofZ w64 (s .args .asked) (s .fits .asked))))
+    let a = s .args in
+    let f = s .fits .asked in
+    difference-fits (a .asked) (a .epoch) (s .pre) f
+    (omega (arith, c .before .if2 .left, c .before .before .size-of .ensures, ap natAbs (toZ-ofZ w64 (a .asked) f)))
 
 in-bounds-requires : tie.Need-in-bounds-requires
 in-bounds-requires c κs = search needs
@@ -42,26 +45,36 @@ in-bounds-requires c κs = search needs
 returns-3 : tie.Need-returns-3
 returns-3 c =
     let s = c .before .before .before .before .before .before .before in
-    answer-over (s .args .epoch) _ (s .args .asked) (s .args .motion) (c .before .before .before .before .before .if1 .left) (c .before .before .position-of .result) _ (c .before .before .position-of .ensures)
-    (difference-back (s .args .asked) (s .args .epoch) (s .pre) (s .fits .asked)
-    (omega (arith, c .before .before .before .if2 .left, c .before .before .before .before .size-of .ensures, ap natAbs (toZ-ofZ w64 (s .args .asked) (s .fits .asked)))))
+    let a = s .args in
+    let f = s .fits .asked in
+    answer-over (a .epoch) _ (a .asked) (a .motion) (c .before .before .before .before .before .if1 .left)
+    (c .before .before .position-of .result) _ (c .before .before .position-of .ensures)
+    (difference-back (a .asked) (a .epoch) (s .pre) f
+    (omega (arith, c .before .before .before .if2 .left, c .before .before .before .before .size-of .ensures, ap natAbs (toZ-ofZ w64 (a .asked) f))))
     (sym (c .before .in-bounds .ensures) ∙ not-true _ (c .if3 .taken))
 
 point-at-requires : tie.Need-point-at-requires
-point-at-requires c κs = inside _
-    _ _ (sym (c .before .in-bounds .ensures) ∙ not-false _ (c .if3 .left))
+point-at-requires c κs = inside _ _ _ (sym (c .before .in-bounds .ensures) ∙ not-false _ (c .if3 .left))
 
 motion-of-requires : tie.Need-motion-of-requires
-motion-of-requires c κs = inside _
-    _ _ (sym (c .before .before .in-bounds .ensures) ∙ not-false _ (c .before .if3 .left)) .motions
+motion-of-requires c κs = inside _ _ _ (sym (c .before .before .in-bounds .ensures) ∙ not-false _ (c .before .if3 .left)) .motions
 
 returns-4 : tie.Need-returns-4
 returns-4 c =
     let s = c .before .before .before .before .before .before .before .before .before in
-    answer-moved (s .args .epoch) _ (s .args .asked) (s .args .motion) (c .before .before .before .before .before .before .before .if1 .left) (c .before .before .before .before .position-of .result) _ (c .before .before .before .before .position-of .ensures)
-    (difference-back (s .args .asked) (s .args .epoch) (s .pre) (s .fits .asked)
-    (omega (arith, c .before .before .before .before .before .if2 .left, c .before .before .before .before .before .before .size-of .ensures, ap natAbs (toZ-ofZ w64 (s .args .asked) (s .fits .asked)))))
-    _ _ (sym (c .before .before .before .in-bounds .ensures) ∙ not-false _ (c .before .before .if3 .left)) (c .before .point-at .ensures) (c .motion-of .ensures)
+    let a = s .args in
+    let f = s .fits .asked in
+    answer-moved (a .epoch) _ (a .asked) (a .motion) (c .before .before .before .before .before .before .before .if1 .left)
+    (c .before .before .before .before .position-of .result) _ (c .before .before .before .before .position-of .ensures)
+    (difference-back (a .asked) (a .epoch) (s .pre) f
+    (omega (
+      arith,
+      c .before .before .before .before .before .if2 .left,
+      c .before .before .before .before .before .before .size-of .ensures,
+      ap natAbs (toZ-ofZ w64 (a .asked) f),
+    )))
+    _ _ (sym (c .before .before .before .in-bounds .ensures) ∙ not-false _ (c .before .before .if3 .left))
+    (c .before .point-at .ensures) (c .motion-of .ensures)
 
 pub shift-from-spec : {M : Type 1} → statement M
 shift-from-spec =

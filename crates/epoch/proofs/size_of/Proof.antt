@@ -16,10 +16,14 @@ cast-result : tie.Need-cast-result
 cast-result c = below-cast _ (fits-back (c .before .args .n) (c .before .fits .n)) (c .if1 .taken)
 
 add-result : tie.Need-add-result
-add-result c = record { fits = omega (arith, below-size _ (fits-back (c .before .args .n) (c .before .fits .n)) (c .if1 .taken), size-fits _ (fits-back (c .before .args .n) (c .before .fits .n))) }
+add-result c =
+    let f = fits-back (c .before .args .n) (c .before .fits .n) in
+    record { fits = omega (arith, below-size _ f (c .if1 .taken), size-fits _ f) }
 
 returns : tie.Need-returns
-returns c = below-size _ (fits-back (c .before .args .n) (c .before .fits .n)) (c .if1 .taken) ∙ ap natAbs (toZ-ofZ w64 (c .before .args .n) (c .before .fits .n))
+returns c =
+    below-size _ (fits-back (c .before .args .n) (c .before .fits .n)) (c .if1 .taken)
+    ∙ ap natAbs (toZ-ofZ w64 (c .before .args .n) (c .before .fits .n))
 
 cast-result-2 : tie.Need-cast-result-2
 cast-result-2 c = above-cast _ (fits-back (c .before .args .n) (c .before .fits .n)) (c .if1 .left)

@@ -11,7 +11,9 @@ int-to-float-result : tie.Need-int-to-float-result
 int-to-float-result c = range-back (c .before .args .motion) (c .before .fits .motion) (omega (arith, c .before .pre))
 
 returns : tie.Need-returns
-returns c = rw (hundred, toZ-ofZ w64 (c .before .args .motion) (c .before .fits .motion)) (hundredfold (c .before .args .motion) (omega (arith, c .before .pre)))
+returns c =
+    rw (hundred, toZ-ofZ w64 (c .before .args .motion) (c .before .fits .motion))
+    (hundredfold (c .before .args .motion) (omega (arith, c .before .pre)))
 
 pub yearly-spec : {M : Type 1} → statement M
 yearly-spec = tie.close (tie.spec int-to-float-result returns)

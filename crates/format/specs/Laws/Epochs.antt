@@ -67,7 +67,8 @@ number-writes v (b ∷ t) m e =
         let is : 0x30 + (b - 0x30) ≡ b = omega (arith, lo) in
         record {
           number = (b - 0x30) * 10 ^ length t + w .number;
-          writes = subst (λ (c : ℕ). Writes (c ∷ t) ((b - 0x30) * 10 ^ length t + w .number)) is (digitBefore (b - 0x30) t (w .number) (omega (arith, lo, hi)) (w .writes));
+          writes = subst (λ (c : ℕ). Writes (c ∷ t) ((b - 0x30) * 10 ^ length t + w .number)) is
+              (digitBefore (b - 0x30) t (w .number) (omega (arith, lo, hi)) (w .writes));
           sum = w .sum ∙ carried 10 v (b - 0x30) (w .number) (length t);
         }
 
@@ -109,7 +110,9 @@ behind-prefix t = refl
 
 of-years : (t : List ℕ) (y : ℕ) → length t ≡ 4 → Writes t y → epochIn t ≡ some (100 * y)
 unfolding epochIn
-of-years t y l w = rw (eq-eqb (length t) 4 l, writes-number 0 t y w) (ap some (let e : (0 * 10 ^ length t + y) * 100 ≡ 100 * y = omega (arith, zero-mul (10 ^ length t)) in e))
+of-years t y l w =
+    rw (eq-eqb (length t) 4 l, writes-number 0 t y w)
+    (ap some (let e : (0 * 10 ^ length t + y) * 100 ≡ 100 * y = omega (arith, zero-mul (10 ^ length t)) in e))
 
 of-hundredths : (t f : List ℕ) (y k : ℕ) → length t ≡ 4 → Writes t y → length f ≡ 2 → Writes f k → epochIn (t ++ (0x2E ∷ f)) ≡ some (100 * y + k)
 unfolding epochIn
@@ -124,19 +127,22 @@ pub uri-epoch : (u : List ℕ) (h : ℕ) → EpochUri u h → epochOf u ≡ some
 uri-epoch u h (inYears t y l w e q) = ap epochOf e ∙ behind-prefix t ∙ of-years t y l w ∙ ap some (sym q)
 uri-epoch u h (inHundredths t f y k l w m x e q) = ap epochOf e ∙ behind-prefix (t ++ (0x2E ∷ f)) ∙ of-hundredths t f y k l w m x ∙ ap some (sym q)
 
-years-of : (u t : List ℕ) (h : ℕ) → u ≡ ascii "urn:ep:" ++ t → length t ≡ 4 → (o : Option ℕ) → numberFrom 0 t ≡ o → Option·map (λ y. y * 100) o ≡ some h → EpochUri u h
+years-of : (u t : List ℕ) (h : ℕ) → u ≡ ascii "urn:ep:" ++ t → length t ≡ 4
+    → (o : Option ℕ) → numberFrom 0 t ≡ o → Option·map (λ y. y * 100) o ≡ some h → EpochUri u h
 years-of u t h e l none n q = none-some q
 years-of u t h e l (some y) n q =
     let w : Written 0 t y = number-writes 0 t y n in
     inYears t (w .number) l (w .writes) e (let p : y * 100 ≡ h = some-one q in omega (arith, p, w .sum, zero-mul (10 ^ length t)))
 
-hundredths-of : (u t : List ℕ) (h : ℕ) → u ≡ ascii "urn:ep:" ++ t → length t ≡ 7 → getD t 4 0 ≡ 0x2E → (o : Option ℕ) → numberFrom 0 (take 4 t) ≡ o → numberBehind o (drop 5 t) ≡ some h → EpochUri u h
+hundredths-of : (u t : List ℕ) (h : ℕ) → u ≡ ascii "urn:ep:" ++ t → length t ≡ 7 → getD t 4 0 ≡ 0x2E
+    → (o : Option ℕ) → numberFrom 0 (take 4 t) ≡ o → numberBehind o (drop 5 t) ≡ some h → EpochUri u h
 hundredths-of u t h e l p none n q = none-some q
 hundredths-of u t h e l p (some y) n q =
     let w : Written 0 (take 4 t) y = number-writes 0 (take 4 t) y n in
     let x : Written y (drop 5 t) h = number-writes y (drop 5 t) h q in
     let m : length (drop 5 t) ≡ 2 = length-drop 5 t ∙ ap (λ (k : ℕ). k - 5) l in
-    let parted : t ≡ take 4 t ++ (0x2E ∷ drop 5 t) = sym (take-append-drop 4 t) ∙ ap (λ (r : List ℕ). take 4 t ++ r) (drop-cons t 4 0 (omega (arith, l)) ∙ ap (λ (b : ℕ). b ∷ drop 5 t) p) in
+    let parted : t ≡ take 4 t ++ (0x2E ∷ drop 5 t) =
+    sym (take-append-drop 4 t) ∙ ap (λ (r : List ℕ). take 4 t ++ r) (drop-cons t 4 0 (omega (arith, l)) ∙ ap (λ (b : ℕ). b ∷ drop 5 t) p) in
     inHundredths (take 4 t) (drop 5 t) (w .number) (x .number) (length-take-le 4 t (omega (arith, l))) (w .writes) m (x .writes)
     (e ∙ ap (λ (r : List ℕ). ascii "urn:ep:" ++ r) parted)
     (let k : h ≡ y * 10 ^ 2 + x .number = x .sum ∙ ap (λ (j : ℕ). y * 10 ^ j + x .number) m in omega (arith, k, w .sum, zero-mul (10 ^ length (take 4 t))))

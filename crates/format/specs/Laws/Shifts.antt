@@ -151,7 +151,8 @@ shot-laid d l h =
       isX = signed-means (take 8 (drop 0 d)) (longAt 0 (omega (arith, l))) (bytesAt 0);
       isY = signed-means (take 8 (drop 8 d)) (longAt 8 (omega (arith, l))) (bytesAt 8);
       isZ = signed-means (take 8 (drop 16 d)) (longAt 16 (omega (arith, l))) (bytesAt 16);
-      all = sym (take-append-drop 8 d) ∙ ap (λ (r : List ℕ). take 8 d ++ r) (sym (take-append-drop 8 (drop 8 d)) ∙ ap (λ (r : List ℕ). take 8 (drop 8 d) ++ r) third);
+      all = sym (take-append-drop 8 d) ∙ ap (λ (r : List ℕ). take 8 d ++ r)
+          (sym (take-append-drop 8 (drop 8 d)) ∙ ap (λ (r : List ℕ). take 8 (drop 8 d) ++ r) third);
     }
   where
     third : drop 8 (drop 8 d) ≡ take 8 (drop 16 d)
