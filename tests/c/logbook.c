@@ -78,18 +78,15 @@ SIZE(logbook_listed, 2 * WORD + sizeof(logbook_reading));
 AT(logbook_listed, length, 0);
 AT(logbook_listed, over, WORD);
 AT(logbook_listed, reading, 2 * WORD);
-SIZE(logbook_triple, 24);
-AT(logbook_triple, x, 0);
-AT(logbook_triple, y, 8);
-AT(logbook_triple, z, 16);
-SIZE(logbook_point, 24);
-AT(logbook_point, x, 0);
-AT(logbook_point, y, 8);
-AT(logbook_point, z, 16);
-SIZE(logbook_motion, 24);
-AT(logbook_motion, x, 0);
-AT(logbook_motion, y, 8);
-AT(logbook_motion, z, 16);
+/* x, y and z of eight bytes each */
+#define THREE(type) \
+    SIZE(type, 24); \
+    AT(type, x, 0); \
+    AT(type, y, 8); \
+    AT(type, z, 16)
+THREE(logbook_triple);
+THREE(logbook_point);
+THREE(logbook_motion);
 SIZE(logbook_shifted, 3 * WORD + 72);
 AT(logbook_shifted, refusal, 0);
 AT(logbook_shifted, place, WORD);

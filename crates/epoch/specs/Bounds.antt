@@ -1,7 +1,7 @@
 -- A number's size, and the difference from an epoch.
-use mathlib.Core.Path.{_≡_, refl, sym, ap, _∙_, subst}
+use mathlib.Core.Path.{_≡_, sym, ap, _∙_, subst}
 use mathlib.Core.Bool.{Bool, true, false, cond}
-use Prim.Native.Nat.{ℕ, zero, suc, _+_, _-_, _^_, _≤_, _<_}
+use Prim.Native.Nat.{ℕ, suc, _+_, _-_, _^_, _≤_, _<_}
 use native.Mathlib.Omega.{arith}
 use borrow.Author.Tests.{lt-leb, le-ltb, ltb-true}
 use lib.Dec.{T, ltb}
@@ -14,16 +14,12 @@ use mir.ValLaws.{toZ-pos, toZ-ofZ}
 use Rattle.format.specs.Figures.{coordinateLimit, differenceLimit}
 use Rattle.format.specs.Epochs.{Triple, isWithin, inBounds, differenceOf}
 use Rattle.format.specs.Laws.Cases.{from-zero-one, true-false, and-false}
-use Rattle.format.specs.Laws.Wholes.{abs-add}
+use Rattle.format.specs.Laws.Wholes.{abs-neg, abs-add}
 use Rattle.epoch.specs.DoubleLaws.{in-range}
 
 mag-small : (z : ℤ) → mag z ≤ natAbs z
 mag-small (pos n) = omega arith
 mag-small (negsuc n) = omega arith
-
-abs-neg : (n : ℕ) → natAbs (negℤ (pos n)) ≡ n
-abs-neg zero = refl
-abs-neg (suc n) = refl
 
 module _ (asked : ℤ) (epoch : ℕ) (k : epoch < 1000000) where
   -- under 2,000,000 in size an asked epoch's difference doesn't wrap

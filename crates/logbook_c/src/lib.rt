@@ -15,7 +15,7 @@ ghost use Rattle.reading.specs.Readings.{readingOf};
 ghost use Rattle.listing.specs.Filling.{fillOf};
 ghost use Rattle.epoch.specs.Answers.{tripleOf};
 ghost use Rattle.logbook_c.specs.Answers.{startedAs, appendedAs, erasedAs, wipedAs, Starts, Appends, Keeps};
-ghost use Rattle.logbook_c.specs.Shifts.{shiftedFrom, shiftedAs};
+ghost use Rattle.logbook_c.specs.Shifts.{refusedShift, shiftedFrom, shiftedAs};
 ghost use Rattle.logbook_c.specs.Items.{readingFrom, rowAs, bareAs, deletedAs, liveAs, assignmentAs, refusedAs, itemAs};
 ghost use Rattle.logbook_c.specs.Items.{BoundedEntry, Bounded, Steps, rowFrom, uriAs, flagOf, Lists};
 use appending::Appended;
@@ -484,6 +484,31 @@ pub extern "C" fn logbook_list(
     }
 }
 
+fn refused_shift(x: Refusal) -> LogbookShifted
+    ensures { λ r. ⌜ r ≡ refusedShift (refusalOf x) ⌝ }
+{
+    let t = record::tell(x);
+    let position = Triple { x: 0, y: 0, z: 0 };
+    let point = Point {
+        x: 0.0,
+        y: 0.0,
+        z: 0.0,
+    };
+    let motion = Motion {
+        x: 0.0,
+        y: 0.0,
+        z: 0.0,
+    };
+    LogbookShifted {
+        refusal: t.number,
+        place: t.place.0,
+        epoch: 0,
+        position,
+        point,
+        motion,
+    }
+}
+
 fn shifted(r: Shifted) -> LogbookShifted
     ensures { λ x. ⌜ x ≡ shiftedFrom r ⌝ }
 {
@@ -501,28 +526,7 @@ fn shifted(r: Shifted) -> LogbookShifted
             point,
             motion,
         },
-        Shifted::Refused(x) => {
-            let t = record::tell(x);
-            let position = Triple { x: 0, y: 0, z: 0 };
-            let point = Point {
-                x: 0.0,
-                y: 0.0,
-                z: 0.0,
-            };
-            let motion = Motion {
-                x: 0.0,
-                y: 0.0,
-                z: 0.0,
-            };
-            LogbookShifted {
-                refusal: t.number,
-                place: t.place.0,
-                epoch: 0,
-                position,
-                point,
-                motion,
-            }
-        }
+        Shifted::Refused(x) => refused_shift(x),
     }
 }
 

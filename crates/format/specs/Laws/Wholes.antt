@@ -71,7 +71,7 @@ hundred-add (negsuc a) (negsuc b) =
     ∙ sym (neg-add-neg (100 * suc a) (100 * suc b))
 
 -- ---- sizes
-abs-neg : (n : ℕ) → natAbs (negℤ (pos n)) ≡ n
+pub abs-neg : (n : ℕ) → natAbs (negℤ (pos n)) ≡ n
 abs-neg zero = refl
 abs-neg (suc n) = refl
 
