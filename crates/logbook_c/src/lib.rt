@@ -77,7 +77,7 @@ pub struct LogbookReading {
 
 #[repr(C)]
 pub struct LogbookRow {
-    pub number: u32,
+    pub number: u64,
     pub place: u32,
     pub length: u32,
 }
@@ -92,7 +92,7 @@ pub struct LogbookItem {
     pub data_place: usize,
     pub data_length: usize,
     pub row: LogbookRow,
-    pub assigned: u32,
+    pub assigned: u64,
     pub assigned_place: usize,
 }
 
@@ -190,7 +190,7 @@ pub extern "C" fn logbook_append(
 pub extern "C" fn logbook_assign(
     buf: &mut [u8],
     used: usize,
-    number: u32,
+    number: u64,
     uri: &[u8],
 ) -> LogbookAppended
     ensures { λ r. ⌜ Appends (Calls.assign number (now (uri .entry))) (now (buf .entry)) used (now (buf .exit)) r ⌝ }
@@ -360,7 +360,7 @@ fn live_item(buf: &[u8], kind: usize, e: Entry) -> LogbookItem
     }
 }
 
-fn assignment_item(buf: &[u8], e: Entry, number: u32, gap: usize) -> LogbookItem
+fn assignment_item(buf: &[u8], e: Entry, number: u64, gap: usize) -> LogbookItem
     requires { ⌜ BoundedEntry (length (now buf)) e × (e .live .kind + gap ≤ e .live .body) ⌝ }
     ensures { λ x. ⌜ x ≡ assignmentAs e number gap ⌝ }
 {

@@ -1,6 +1,6 @@
 //! An independent implementation of the Lozizol 0.5 logbook, written from the
-//! papers alone: 01 (the scope, which decides), 02 \[1\], \[2\] and \[11\] (the
-//! change requests that have landed) and 000 (the format).
+//! papers alone: 01 (the scope, which decides), 02 \[1\], \[2\], \[5\] and \[11\]
+//! (the change requests that have landed) and 000 (the format).
 //!
 //! A logbook is a lent buffer and a used length. [`start`] makes one,
 //! [`Reading::step`] reads it item by item, [`append`] and [`assign`] write at
@@ -55,25 +55,26 @@
 //! 18. *The listing* shows live entries only. A file over 65,536 bytes gives
 //!     the single line `refused`, 1, 0.
 //! 19. *Two of 14, 15 and 16 at once.* They stand "in that order", so the first
-//!     that applies is given: 80 FF FF FF is 14 and not 15, as a size or a
-//!     type; the record 01 80 is 14 and not 16; the record 04 FF FF FF FF is 15
-//!     and not 16.
+//!     that applies is given: 80 FF FF FF is 14 and not 15 as a size, and so is
+//!     80 with FF eight times behind it as a type; the record 01 80 is 14 and
+//!     not 16; the record 09 with FF nine times is 15 and not 16.
 //! 20. *Sizes and types.* A size can be 14 or 15, and then no type is looked
 //!     at; one that isn't over is 2, never 16, which says "type". A type can be
 //!     any of the three, once its record is complete: 02 80 at the used
 //!     length is 2.
 //! 21. *A type's bytes* are those within its size. The record 03 FF FF FF is 16
 //!     at its last FF, also where a further FF stands behind it. So 16 is only
-//!     met with a size of 1, 2 or 3, every byte of the body with the top bit
-//!     set and the first one not 80.
+//!     met with a size of 1 to 8, every byte of the body with the top bit set
+//!     and the first one not 80.
 //! 22. *The number in an assignment's data* is neither size nor type. 01 lists
 //!     it under 5 ("broken"), which 02 \[1\] leaves as it is: with a first byte
-//!     80 (03 01 80 02) or over its length limit (05 01 FF FF FF FF) it is 5 at
-//!     the record's start, as it is where it isn't over (point 5).
+//!     80 (03 01 80 02) or over its length limit (0A 01 and FF nine times) it is
+//!     5 at the record's start, as it is where it isn't over (point 5).
 //! 23. *The places of 14, 15 and 16* are those of bytes, counted as any other
-//!     place. "The fourth byte" is the integer's own fourth, so a type's is
-//!     found behind the whole size: 81 00 FF FF FF FF at 109 is 15 at 114.
-//! 24. *A shift* (02 \[11\], to the last point) takes a shot as its URI and its
+//!     place. "The fourth or the ninth" is the integer's own, so a type's ninth
+//!     is found behind the whole size: 81 00 and FF nine times at 109 is 15 at
+//!     119.
+//! 24. *A shift* (02 \[11\], to point 33) takes a shot as its URI and its
 //!     data. No logbook is walked and no place is asked for, so only 24, 25 and
 //!     26 are known, and the place is 0 for each.
 //! 25. *The URI of an epoch* is compared byte by byte (point 14) and from end to
@@ -103,6 +104,24 @@
 //! 33. *The doubles* are whole micrometres and at most 10,001,000,000,000 in
 //!     size, below 2^53. So [`Shifted`] holds the whole numbers they equal; the
 //!     sign that a double's zero can have is no part of that.
+//! 34. *Two limits* (02 \[5\], to the last point). A record's type and the number
+//!     in an assignment's data have nine bytes, a size four. 01's "any written
+//!     integer: at most 4 bytes" holds for sizes alone then. Nine bytes are 63
+//!     bits, so none of them passes 9,223,372,036,854,775,807: what is read is
+//!     judged by its length only.
+//! 35. *M10* is a size. FF FF FF FF as a type isn't over its limit: the record
+//!     04 FF FF FF FF is 16 at its last byte, and 05 FF FF FF FF 7F is number
+//!     34,359,738,367 (6 where it isn't held).
+//! 36. *"The last byte allowed"* goes by what the integer is, not by its size:
+//!     a type's is always its ninth. A record that ends before it is 16, one
+//!     that ends with it is 15 (point 19). Bytes behind it are not looked at.
+//! 37. *"Number 0 or over the limit"* in 10 and *"within the integer limit"* in
+//!     a fit mean the limit of type numbers. A stated number is 10 from
+//!     9,223,372,036,854,775,808 up, a removal's too; a row with one is 13.
+//! 38. *"The order and kinds of refusal stay"*: an assigned number of ten bytes
+//!     is 5 at the record's start and not 15, also with an empty URI behind it.
+//! 39. *The whole number counts.* 4,294,967,296 is not type 0, 4,294,967,297 is
+//!     not implied, and urn:lozizol:header goes to 111 alone.
 
 #![forbid(unsafe_code)]
 #![warn(missing_docs)]

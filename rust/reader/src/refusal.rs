@@ -1,4 +1,4 @@
-//! The numbered refusals (01, Refusals and their order; 02 \[1\] and \[11\]).
+//! The numbered refusals (01, Refusals and their order; 02 \[1\], \[5\] and \[11\]).
 
 /// A refusal: its number in the papers and its place (0 where none is shown).
 ///
@@ -48,7 +48,8 @@ impl Refusal {
         Refusal::new(14, place)
     }
 
-    /// A size or type is over its length limit. The place is its fourth byte's.
+    /// A size or type is over its length limit. The place is that of its last
+    /// byte allowed, a size's fourth or a type's ninth.
     pub(crate) const fn too_long(place: usize) -> Refusal {
         Refusal::new(15, place)
     }

@@ -1,10 +1,13 @@
-//! The cases of papers 01 and 02 [1] and [11], run through the public calls.
+//! The cases of papers 01 and 02 [1], [5] and [11], run through the public calls.
 
 use reader::*;
 
 const UUID: [u8; 16] = [
     0x03, 0x93, 0x43, 0xBB, 0x90, 0x19, 0x4D, 0x6E, 0x82, 0x5E, 0x63, 0x1A, 0xA5, 0x78, 0xFF, 0x7F,
 ];
+
+/// The largest type number, 128^9 - 1.
+const LIMIT: u64 = 9_223_372_036_854_775_807;
 
 /// A header and then these bytes.
 fn book(parts: &[&[u8]]) -> Vec<u8> {
@@ -161,7 +164,8 @@ fn m1_to_m10_as_sizes_and_types() {
         (b"\xFF\xFF\xFF\xFF", (15, 112)),  // M10
         (b"\x00\x03\x80\x11a", (14, 111)), // M8 to M10 as types
         (b"\x00\x01\x81", (16, 111)),
-        (b"\x00\x04\xFF\xFF\xFF\xFF", (15, 114)),
+        (b"\x00\x04\xFF\xFF\xFF\xFF", (16, 114)), // a type may have nine bytes
+        (b"\x00\x05\xFF\xFF\xFF\xFF\x7F", (6, 110)),
     ] {
         assert_eq!(refusal_of(bytes), Some(refusal), "{bytes:?}");
     }
@@ -206,6 +210,8 @@ fn broken_sizes() {
         (b"\xFF\xFF\xFF\xFF", 15, 3),
         (b"\xFF\xFF\xFF\x80\x00", 15, 3),
         (b"\x81\x80\x80\x80\x80\x80\x80\x80\x01", 15, 3),
+        (b"\xFF\xFF\xFF\xFF\xFF\xFF\xFF\xFF\x7F", 15, 3),
+        (b"\xFF\xFF\xFF\xFF\xFF\xFF\xFF\xFF\xFF", 15, 3),
         (b"\x81\x80\x80\x00", 2, 0), // over at the fourth byte
         (b"\xFF\xFF\xFF\x7F", 2, 0),
     ] {
@@ -217,7 +223,7 @@ fn broken_sizes() {
 fn bytes_past_the_used_length_are_not_looked_at() {
     // The bytes at 109, and the refusals at the used lengths 110, 111 and so on.
     type Case<'a> = (&'a [u8], &'a [(u8, usize)]);
-    let cases: [Case; 6] = [
+    let cases: [Case; 8] = [
         (b"\x80\x80", &[(14, 109), (14, 109)]),
         (b"\x81\x00", &[(2, 109), (2, 109)]),
         (
@@ -230,8 +236,16 @@ fn bytes_past_the_used_length_are_not_looked_at() {
             &[(2, 109), (2, 109), (2, 109), (16, 112)],
         ),
         (
-            b"\x04\xFF\xFF\xFF\xFF",
-            &[(2, 109), (2, 109), (2, 109), (2, 109), (15, 113)],
+            b"\x04\xFF\xFF\xFF\xFF\xFF\xFF\xFF\xFF\xFF",
+            &[(2, 109), (2, 109), (2, 109), (2, 109), (16, 113)],
+        ),
+        (
+            b"\x08\xFF\xFF\xFF\xFF\xFF\xFF\xFF\xFF\xFF",
+            &[&[(2, 109); 8][..], &[(16, 117), (16, 117)]].concat(),
+        ),
+        (
+            b"\x09\xFF\xFF\xFF\xFF\xFF\xFF\xFF\xFF\xFF\xFF",
+            &[&[(2, 109); 9][..], &[(15, 118), (15, 118)]].concat(),
         ),
     ];
     for (bytes, refusals) in cases {
@@ -255,31 +269,45 @@ fn broken_types() {
         (b"\x03\x80\x80\x80", 14, 1),
         (b"\x04\x80\xFF\xFF\xFF", 14, 1),
         (b"\x05\x80\x80\x80\x80\x01", 14, 1),
+        (b"\x09\x80\xFF\xFF\xFF\xFF\xFF\xFF\xFF\xFF", 14, 1),
+        (b"\x0A\x80\x80\x80\x80\x80\x80\x80\x80\x80\x01", 14, 1),
         (b"\x01\x81", 16, 1), // not over at the record's last byte
         (b"\x01\xFF", 16, 1),
         (b"\x02\x81\x80", 16, 2),
         (b"\x02\xFF\xFF", 16, 2),
         (b"\x03\x81\x80\x80", 16, 3),
         (b"\x03\xFF\xFF\xFF", 16, 3),
-        (b"\x04\x81\x80\x80\x80", 15, 4), // the fourth byte, before 16
-        (b"\x04\xFF\xFF\xFF\xFF", 15, 4),
-        (b"\x05\xFF\xFF\xFF\x80\x00", 15, 4),
-        (b"\x06\xFF\xFF\xFF\xFF\xFF\xFF", 15, 4),
+        (b"\x04\x81\x80\x80\x80", 16, 4), // the fourth byte is no limit of a type
+        (b"\x04\xFF\xFF\xFF\xFF", 16, 4),
+        (b"\x06\xFF\xFF\xFF\xFF\xFF\xFF", 16, 6),
+        (b"\x08\x81\x80\x80\x80\x80\x80\x80\x80", 16, 8),
+        (b"\x08\xFF\xFF\xFF\xFF\xFF\xFF\xFF\xFF", 16, 8),
+        (b"\x09\x81\x80\x80\x80\x80\x80\x80\x80\x80", 15, 9), // the ninth byte, before 16
+        (b"\x09\xFF\xFF\xFF\xFF\xFF\xFF\xFF\xFF\xFF", 15, 9),
+        (b"\x0A\xFF\xFF\xFF\xFF\xFF\xFF\xFF\xFF\x80\x00", 15, 9),
+        (b"\x0B\xFF\xFF\xFF\xFF\xFF\xFF\xFF\xFF\xFF\xFF\xFF", 15, 9),
         (b"\x02\x81\x00", 6, 0), // over at the record's last byte
         (b"\x03\x81\x80\x00", 6, 0),
         (b"\x04\x81\x80\x80\x00", 6, 0),
         (b"\x04\xFF\xFF\xFF\x7F", 6, 0),
+        (b"\x05\xFF\xFF\xFF\x80\x00", 6, 0),
+        (b"\x09\x81\x80\x80\x80\x80\x80\x80\x80\x00", 6, 0),
+        (b"\x09\xFF\xFF\xFF\xFF\xFF\xFF\xFF\xFF\x7F", 6, 0),
         (b"\x02\x80", 2, 0), // incomplete before the type is looked at
         (b"\x02\x81", 2, 0),
         (b"\x04\xFF\xFF\xFF", 2, 0),
         (b"\x05\xFF\xFF\xFF\xFF", 2, 0),
+        (b"\x0A\xFF\xFF\xFF\xFF\xFF\xFF\xFF\xFF\xFF", 2, 0),
         (b"\x81\x00\x80", 2, 0),
     ] {
         check_record(record, number, byte);
     }
-    // Behind sizes of one to four bytes.
+}
+
+#[test]
+fn broken_types_behind_sizes_of_one_to_four_bytes() {
     for (size, length) in [
-        (&b"\x05"[..], 5),
+        (&b"\x0A"[..], 10),
         (b"\x7F", 127),
         (b"\x81\x00", 128),
         (b"\xFF\x7F", 16_383),
@@ -289,9 +317,15 @@ fn broken_types() {
         for (start, number, byte) in [
             (&b"\x80"[..], 14, size.len()),
             (b"\x80\xFF\xFF\xFF", 14, size.len()),
-            (b"\x81\x80\x80\x80", 15, size.len() + 3),
-            (b"\xFF\xFF\xFF\xFF\x80", 15, size.len() + 3),
+            (b"\x81\x80\x80\x80\x80\x80\x80\x80\x80", 15, size.len() + 8),
+            (
+                b"\xFF\xFF\xFF\xFF\xFF\xFF\xFF\xFF\xFF\x80",
+                15,
+                size.len() + 8,
+            ),
             (b"\xFF\xFF\xFF\x7F", 6, 0),
+            (b"\xFF\xFF\xFF\xFF\x80", 6, 0),
+            (b"\xFF\xFF\xFF\xFF\xFF\xFF\xFF\xFF\x7F", 6, 0),
         ] {
             let mut record = [size, start, &vec![0; length - start.len()]].concat();
             assert_eq!(refusal_of(&record), Some((number, 109 + byte)));
@@ -313,7 +347,11 @@ fn broken_assigned_numbers() {
         b"\xFF\xFF\xFF",
         b"\x81\x80\x80\x80",
         b"\xFF\xFF\xFF\xFF",
-        b"\xFF\xFF\xFF\xFF\x7Fa:",
+        b"\xFF\xFF\xFF\xFF\xFF\xFF\xFF\xFF",
+        b"\x80\xFF\xFF\xFF\xFF\xFF\xFF\xFF\xFFa:",
+        b"\x81\x80\x80\x80\x80\x80\x80\x80\x80",
+        b"\xFF\xFF\xFF\xFF\xFF\xFF\xFF\xFF\xFF",
+        b"\xFF\xFF\xFF\xFF\xFF\xFF\xFF\xFF\xFF\x7Fa:",
     ] {
         let size = data.len() as u8;
         check_record(&[&[size + 1, 1], data].concat(), 5, 0);
@@ -329,7 +367,8 @@ fn broken_assigned_numbers() {
     }
     // A broken size or type comes first.
     check_record(b"\x03\x80\x01\x80", 14, 1);
-    check_record(b"\x05\xFF\xFF\xFF\xFF\x80", 15, 4);
+    check_record(b"\x05\xFF\xFF\xFF\xFF\x80", 16, 5);
+    check_record(b"\x0A\xFF\xFF\xFF\xFF\xFF\xFF\xFF\xFF\xFF\x80", 15, 9);
 }
 
 #[test]
@@ -338,7 +377,7 @@ fn each_call_says_what_is_broken() {
         (&b"\x80"[..], 14, 119),
         (b"\xFF\xFF\xFF\xFF", 15, 122),
         (b"\x01\x80", 14, 120),
-        (b"\x06\xFF\xFF\xFF\xFF\x01\x01", 15, 123),
+        (b"\x0B\xFF\xFF\xFF\xFF\xFF\xFF\xFF\xFF\xFF\x01\x01", 15, 128),
         (b"\x81\x00\x80", 2, 119), // only once the record is complete
         (b"\x03\x81\x82\x83", 16, 122),
     ] {
@@ -562,15 +601,17 @@ fn refusals_of_a_request() {
     for (number, uri) in [
         (0, &b""[..]),
         (0, b"a:"),
-        (268_435_456, b""),
-        (u32::MAX, b"a:"),
+        (9_223_372_036_854_775_808, b""),
+        (u64::MAX, b"a:"),
         (2, b"a"),
         (111, b"urn:lozizol:deleted"),
         (110, b"urn:lozizol:header"),
     ] {
         assert_eq!(assign(&mut bad, 20, number, uri), refused(10, 0));
     }
-    assert_eq!(assign(&mut bad, 20, 268_435_455, b""), refused(2, 0));
+    for number in [268_435_455, 268_435_456, 9_223_372_036_854_775_807] {
+        assert_eq!(assign(&mut bad, 20, number, b""), refused(2, 0));
+    }
     assert_eq!(text(&[b'l'; 65_537]), "refused\t1\t0\n");
     assert_eq!(text(&[b'l'; 65_536]), "refused\t3\t0\n");
 
@@ -645,7 +686,7 @@ fn readings_that_do_not_fit() {
             (r.held, r.rows[3]) = (
                 4,
                 Row {
-                    number: 268_435_456,
+                    number: 9_223_372_036_854_775_808,
                     length: 1,
                     ..Row::default()
                 },
@@ -770,6 +811,610 @@ fn long_data_and_the_largest_used_length() {
     assert_eq!(wipe(&mut buf, limit, 114, usize::MAX), Ok(65_537));
 }
 
+/// Each power of 128 up to the limit with its neighbours, 0 and 1 aside.
+const POWERS: [(u64, &[u8]); 27] = [
+    (2, b"\x02"),
+    (127, b"\x7F"),
+    (128, b"\x81\x00"),
+    (129, b"\x81\x01"),
+    (16_383, b"\xFF\x7F"),
+    (16_384, b"\x81\x80\x00"),
+    (16_385, b"\x81\x80\x01"),
+    (2_097_151, b"\xFF\xFF\x7F"),
+    (2_097_152, b"\x81\x80\x80\x00"),
+    (2_097_153, b"\x81\x80\x80\x01"),
+    (268_435_455, b"\xFF\xFF\xFF\x7F"),
+    (268_435_456, b"\x81\x80\x80\x80\x00"),
+    (268_435_457, b"\x81\x80\x80\x80\x01"),
+    (34_359_738_367, b"\xFF\xFF\xFF\xFF\x7F"),
+    (34_359_738_368, b"\x81\x80\x80\x80\x80\x00"),
+    (34_359_738_369, b"\x81\x80\x80\x80\x80\x01"),
+    (4_398_046_511_103, b"\xFF\xFF\xFF\xFF\xFF\x7F"),
+    (4_398_046_511_104, b"\x81\x80\x80\x80\x80\x80\x00"),
+    (4_398_046_511_105, b"\x81\x80\x80\x80\x80\x80\x01"),
+    (562_949_953_421_311, b"\xFF\xFF\xFF\xFF\xFF\xFF\x7F"),
+    (562_949_953_421_312, b"\x81\x80\x80\x80\x80\x80\x80\x00"),
+    (562_949_953_421_313, b"\x81\x80\x80\x80\x80\x80\x80\x01"),
+    (72_057_594_037_927_935, b"\xFF\xFF\xFF\xFF\xFF\xFF\xFF\x7F"),
+    (
+        72_057_594_037_927_936,
+        b"\x81\x80\x80\x80\x80\x80\x80\x80\x00",
+    ),
+    (
+        72_057_594_037_927_937,
+        b"\x81\x80\x80\x80\x80\x80\x80\x80\x01",
+    ),
+    (
+        9_223_372_036_854_775_806,
+        b"\xFF\xFF\xFF\xFF\xFF\xFF\xFF\xFF\x7E",
+    ),
+    (
+        9_223_372_036_854_775_807,
+        b"\xFF\xFF\xFF\xFF\xFF\xFF\xFF\xFF\x7F",
+    ),
+];
+
+/// The writing of the limit.
+const LARGEST: &[u8] = POWERS[26].1;
+
+/// The one writing of a number: its digits to the base 128.
+fn writing(number: u64) -> Vec<u8> {
+    let (mut bytes, mut rest) = (vec![(number % 128) as u8], number / 128);
+    while rest > 0 {
+        bytes.insert(0, 128 + (rest % 128) as u8);
+        rest /= 128;
+    }
+    bytes
+}
+
+/// The record of this type number and data.
+fn record(number: u64, data: &[u8]) -> Vec<u8> {
+    let body = [&writing(number), data].concat();
+    [writing(body.len() as u64), body].concat()
+}
+
+/// A record under number 1 that assigns the URI to the number.
+fn assigns(number: u64, uri: &[u8]) -> Vec<u8> {
+    record(1, &[&writing(number), uri].concat())
+}
+
+#[test]
+fn numbers_at_each_power_of_128_are_written() {
+    for (number, bytes) in POWERS {
+        assert_eq!(writing(number), bytes);
+        let length = bytes.len();
+        let (mut buf, mut used) = (book(&[&[0xAA; 60]]), 109);
+        let size = |more| [(length + more) as u8];
+        let expected = [
+            [&size(3)[..], b"\x01", bytes, b"a:"].concat(),
+            [&size(1), bytes, b"Q"].concat(),
+            [&size(1), &b"\x01"[..], bytes].concat(),
+        ];
+        type Call = fn(&mut [u8], usize, u64) -> Result<Appended, Refusal>;
+        let calls: [Call; 3] = [
+            |buf, used, number| assign(buf, used, number, b"a:"),
+            |buf, used, _| append(buf, used, b"a:", b"Q"),
+            |buf, used, number| assign(buf, used, number, b""),
+        ];
+        for (call, written) in calls.iter().zip(&expected) {
+            let end = used + written.len();
+            let answer = Appended {
+                place: used,
+                used: end,
+            };
+            // No room first: a byte is missing.
+            let mut tight = buf[..end - 1].to_vec();
+            assert_eq!(call(&mut tight, used, number), refused(12, used));
+            assert_eq!(tight, buf[..end - 1]);
+            assert_eq!(call(&mut buf, used, number), Ok(answer), "{number}");
+            assert_eq!(&buf[used..end], written);
+            assert!(buf[end..].iter().all(|&byte| byte == 0xAA));
+            used = end;
+        }
+        // Removed: the number is held no more.
+        assert_eq!(items(&buf[..used]).1.held, 2);
+    }
+}
+
+#[test]
+fn numbers_at_each_power_of_128_are_read() {
+    for (number, bytes) in POWERS {
+        let length = bytes.len();
+        let front = assigns(number, b"a:");
+        let log = book(&[&front, &record(number, b"Q")]);
+        let (list, reading, refusal) = items(&log);
+        let place = 109 + front.len();
+        let entry = Item::Entry {
+            place,
+            number: 3,
+            kind: Kind::Plain,
+            uri: b"a:",
+            data_place: place + 1 + length,
+            data: b"Q",
+        };
+        assert_eq!((list[2], refusal), (entry, None));
+        let row = Row {
+            number,
+            implied: false,
+            place: (111 + length) as u32,
+            length: 2,
+        };
+        // Behind 1, and behind 111 or before it.
+        let index = if number < 111 { 1 } else { 2 };
+        assert_eq!((reading.held, reading.rows[index]), (3, row));
+        // No other number is held, nor this one behind its removal.
+        for (other, _) in POWERS.iter().filter(|(other, _)| *other != number) {
+            let bytes = [&front[..], &record(*other, b"Q")].concat();
+            assert_eq!(refusal_of(&bytes), Some((6, place)), "{number} {other}");
+        }
+        let removal = assigns(number, b"");
+        let bytes = [&front[..], &removal, &record(number, b"Q")].concat();
+        assert_eq!(refusal_of(&bytes), Some((6, place + removal.len())));
+    }
+}
+
+#[test]
+fn types_broken_at_each_byte() {
+    // A body of `size` bytes, of which `set` in front have the top bit set.
+    for size in 1..14 {
+        for (set, first, rest) in (0..=size).flat_map(|set| {
+            let bytes = [(0x80, 0x80), (0x80, 0xFF), (0x81, 0x80), (0xFF, 0xFF)];
+            bytes.map(|(first, rest)| (set, first, rest))
+        }) {
+            let mut body = vec![rest; set];
+            body.resize(size, 0x05);
+            if set > 0 {
+                body[0] = first;
+            }
+            let expected = match (body[0], set) {
+                (0x80, _) => (14, 110),
+                (_, 9..) => (15, 118),
+                _ if set == size => (16, 109 + size),
+                _ => (6, 109),
+            };
+            let bytes = [&[size as u8], &body[..]].concat();
+            assert_eq!(refusal_of(&bytes), Some(expected), "{bytes:X?}");
+            // Cut off anywhere, the type is not looked at.
+            for cut in 1..bytes.len() {
+                assert_eq!(refusal_of(&bytes[..cut]), Some((2, 109)));
+            }
+        }
+    }
+}
+
+#[test]
+fn types_of_nine_and_ten_bytes() {
+    for (number, bytes) in &POWERS[23..] {
+        let front = assigns(*number, b"a:");
+        let place = 109 + front.len();
+        // Nine bytes, with and without data; one byte more in front is too many.
+        for data in [&b""[..], b"Q", b"\xFF\xFF"] {
+            let nine = record(*number, data);
+            let log = book(&[&front, &nine]);
+            let entry = (place, b"a:".to_vec(), data.to_vec());
+            assert_eq!(entries(&log).last(), Some(&entry));
+            for cut in 1..nine.len() {
+                let bytes = [&front, &nine[..cut]].concat();
+                assert_eq!(refusal_of(&bytes), Some((2, place)), "{cut}");
+            }
+            for first in [0x81, 0xFF] {
+                let body = [&[first], *bytes, data].concat();
+                let ten = [&[body.len() as u8], &body[..]].concat();
+                let bytes = [&front[..], &ten].concat();
+                assert_eq!(refusal_of(&bytes), Some((15, place + 9)), "{ten:X?}");
+            }
+        }
+        // Its size cuts the type off.
+        for size in 1..bytes.len() {
+            let bytes = [&front[..], &[size as u8], &bytes[..size]].concat();
+            assert_eq!(refusal_of(&bytes), Some((16, place + size)));
+        }
+    }
+}
+
+#[test]
+fn assigned_numbers_of_nine_and_ten_bytes() {
+    let ten = |last: u8| [&[0xFF; 9][..], &[last]].concat();
+    // Under 1 and under the largest number, which holds urn:lozizol:type too.
+    let front = assigns(LIMIT, b"urn:lozizol:type");
+    for under in [1, LIMIT] {
+        let place = 109 + front.len();
+        let answer = |data: &[u8]| refusal_of(&[&front[..], &record(under, data)].concat());
+        for nine in [LARGEST, b"\x81\x80\x80\x80\x80\x80\x80\x80\x00"] {
+            for cut in 0..9 {
+                assert_eq!(answer(&nine[..cut]), Some((5, place)));
+            }
+            assert_eq!(answer(nine), None); // a removal
+            assert_eq!(answer(&[nine, b"a:"].concat()), None);
+            assert_eq!(answer(&[nine, b"a"].concat()), Some((5, place)));
+        }
+        for number in [ten(0), ten(1), ten(0x7F), ten(0xFF)] {
+            for uri in [&b""[..], b"a:", b"urn:lozizol:type"] {
+                let data = [&number, uri].concat();
+                for cut in 0..=data.len() {
+                    assert_eq!(answer(&data[..cut]), Some((5, place)), "{cut}");
+                }
+            }
+        }
+        // Cut off by the used length it is 2, at each byte.
+        let whole = record(under, &[LARGEST, b"a:"].concat());
+        for cut in 1..whole.len() {
+            let bytes = [&front, &whole[..cut]].concat();
+            assert_eq!(refusal_of(&bytes), Some((2, place)));
+        }
+    }
+}
+
+#[test]
+fn sizes_of_four_and_five_bytes() {
+    for size in [
+        &b"\x81\x80\x80\x80\x00"[..], // 128^4
+        b"\x81\x80\x80\x80\x01",
+        b"\xFF\xFF\xFF\xFF\x7F",
+        &[0xFF; 5],
+        LARGEST,
+        &[0xFF; 10],
+    ] {
+        for cut in 1..=size.len() {
+            let answer = if cut < 4 { (2, 109) } else { (15, 112) };
+            assert_eq!(refusal_of(&size[..cut]), Some(answer), "{size:X?} {cut}");
+        }
+    }
+    // Four bytes, with types of nine: the smallest such size, and the one up
+    // to the largest used length.
+    let front = assigns(LIMIT, b"a:");
+    assert_eq!(front.len(), 13);
+    for (size, length) in [
+        (b"\x81\x80\x80\x00", 2_097_152),
+        (b"\x87\xFF\xFF\x02", 16_777_216 - 126),
+    ] {
+        let body = [LARGEST, &vec![b'x'; length - 9]].concat();
+        let log = book(&[&front, size, &body]);
+        let list = entries(&log);
+        assert_eq!((list[2].0, list[2].2.len()), (122, length - 9));
+        let last = log.len() - 1;
+        let (_, at, _) = items(&log[..122]);
+        assert_eq!(at.step(&log, last).0, refused(2, 122));
+        let mut buf = log.clone();
+        assert_eq!(erase(&mut buf, log.len(), 122), Ok(126));
+        assert_eq!(&buf[122..128], [size, &b"\x00\xFF"[..]].concat());
+    }
+}
+
+#[test]
+fn sizes_written_with_types_of_nine_bytes() {
+    // Data of 65,535 bytes: size 65,544.
+    let front = assigns(LIMIT, b"a:");
+    let mut buf = book(&[&front, &vec![0xAA; 65_547]]);
+    let used = 109 + front.len();
+    let answer = append(&mut buf, used, b"a:", &[b'x'; 65_535]);
+    let end = Appended {
+        place: used,
+        used: used + 65_547,
+    };
+    assert_eq!(answer, Ok(end));
+    assert_eq!(&buf[used..used + 12], [b"\x84\x80\x08", LARGEST].concat());
+    // An assignment of nine bytes under nine: sizes 127, 128 and 273.
+    let front = [assigns(LIMIT, b"urn:lozizol:type"), assigns(1, b"")].concat();
+    let used = 109 + front.len();
+    for (size, uri) in [(&b"\x7F"[..], 109), (b"\x81\x00", 110), (b"\x82\x11", 255)] {
+        let uri = [b"a:", &vec![b'x'; uri - 2][..]].concat();
+        let number = LIMIT - 1;
+        let written = [size, LARGEST, POWERS[25].1, &uri].concat();
+        let mut buf = book(&[&front, &vec![0xAA; written.len()]]);
+        let end = buf.len();
+        let mut tight = buf[..end - 1].to_vec();
+        assert_eq!(assign(&mut tight, used, number, &uri), refused(12, used));
+        assert!(assign(&mut buf, used, number, &uri).is_ok());
+        assert_eq!(&buf[used..], written);
+        assert_eq!(entries(&buf).last().unwrap().0, used);
+    }
+}
+
+/// Number `index` of a falling row of nine bytes each, alike in the low half.
+fn falling(index: u64) -> u64 {
+    LIMIT - (index << 32)
+}
+
+/// A logbook with the first 32 of these held and no other; the first holds
+/// urn:lozizol:type, the others a:1 to a:31. Its used length, then free bytes.
+fn full_of_nine() -> (Vec<u8>, usize) {
+    let mut buf = book(&[&[0xAA; 1_000]]);
+    let mut used = 109;
+    let mut put = |number, uri: &[u8]| used = assign(&mut buf, used, number, uri).unwrap().used;
+    put(falling(0), b"urn:lozizol:type");
+    put(111, b"");
+    put(1, b"");
+    for index in 1..32 {
+        put(falling(index), format!("a:{index}").as_bytes());
+    }
+    (buf, used)
+}
+
+#[test]
+fn thirty_two_numbers_of_nine_bytes() {
+    let (buf, used) = full_of_nine();
+    let log = &buf[..used];
+    let (_, end, refusal) = items(log);
+    assert_eq!((refusal, end.held), (None, 32));
+    for (row, index) in end.rows.iter().zip((0..32).rev()) {
+        assert_eq!((row.number, row.implied), (falling(index), false));
+        assert_eq!(writing(row.number).len(), 9);
+    }
+    // Each one is resolved, and no other.
+    for index in 0..40 {
+        let behind = record(falling(index), LARGEST);
+        let says = refusal_of(&[&log[109..], &behind].concat());
+        assert_eq!(says.is_none(), index < 32, "{index}");
+        assert!(index < 32 || says == Some((6, used)));
+    }
+    for low in [0, 1, 111, LIMIT & 0xFFFF_FFFF, LIMIT - 1] {
+        let says = refusal_of(&[&log[109..], &record(low, b"")].concat());
+        assert_eq!(says, if low == 0 { None } else { Some((6, used)) });
+    }
+    // 7 for a further one; none for a held one, a removal, or in its room.
+    let behind = |number, uri: &[u8]| record(falling(0), &[&writing(number), uri].concat());
+    for further in [1, 2, 111, falling(32), LIMIT - 1, 0xFFFF_FFFF] {
+        let one = behind(further, b"b:");
+        let bytes = [&log[109..], &one].concat();
+        assert_eq!(refusal_of(&bytes), Some((7, used)));
+        for before in [behind(further, b""), behind(falling(9), b"b:")] {
+            let bytes = [&log[109..], &before, &one].concat();
+            assert_eq!(refusal_of(&bytes), Some((7, used + before.len())));
+        }
+        let bytes = [&log[109..], &behind(falling(9), b""), &one].concat();
+        assert_eq!(refusal_of(&bytes), None);
+    }
+}
+
+#[test]
+fn requests_where_32_numbers_of_nine_bytes_are_held() {
+    let (full, used) = full_of_nine();
+    let mut buf = full.clone();
+    assert_eq!(append(&mut buf, used, b"b:", b""), refused(7, used));
+    for further in [1, 2, 111, falling(32), LIMIT - 1] {
+        assert_eq!(assign(&mut buf, used, further, b"b:"), refused(7, used));
+    }
+    for over in [LIMIT + 1, LIMIT + 2, u64::MAX] {
+        assert_eq!(assign(&mut buf, used, over, b"b:"), refused(10, 0));
+        assert_eq!(assign(&mut buf, used, over, b""), refused(10, 0));
+    }
+    assert_eq!(buf, full);
+}
+
+#[test]
+fn records_are_written_under_numbers_of_nine_bytes() {
+    let (mut buf, used) = full_of_nine();
+    // A held URI, a held number, a removal.
+    let mut at = used;
+    for (answer, written) in [
+        (
+            append(&mut buf, at, b"a:31", b"Q"),
+            record(falling(31), b"Q"),
+        ),
+        (
+            assign(&mut buf, at + 11, falling(9), b"a:31"),
+            record(falling(0), &[&writing(falling(9))[..], b"a:31"].concat()),
+        ),
+        (
+            assign(&mut buf, at + 34, falling(5), b""),
+            record(falling(0), &writing(falling(5))),
+        ),
+    ] {
+        let end = at + written.len();
+        assert_eq!(
+            answer,
+            Ok(Appended {
+                place: at,
+                used: end
+            })
+        );
+        assert_eq!(buf[at..end], written);
+        at = end;
+    }
+    // The removed one's room goes to the smallest number from 1 up.
+    let place = append(&mut buf, at, b"b:", b"").unwrap().place;
+    assert_eq!(buf[at..place], record(falling(0), b"\x01b:"));
+    assert_eq!(&buf[place..place + 2], b"\x01\x01");
+    // Two hold a:31 now, and the smaller is used.
+    append(&mut buf, place + 2, b"a:31", b"").unwrap();
+    assert_eq!(buf[place + 2..][..10], record(falling(31), b""));
+}
+
+#[test]
+fn stated_numbers() {
+    let (mut bad, mut good) = (vec![0; 20], book(&[]));
+    let header = good.clone();
+    // Over the limit: 10, a removal too, ahead of the walk and of 11, 7 and 12.
+    for number in [0, LIMIT + 1, LIMIT + 2, LIMIT + 112, u64::MAX - 1, u64::MAX] {
+        for uri in [
+            &b""[..],
+            b"a:",
+            b"a",
+            b"urn:lozizol:type",
+            b"urn:lozizol:header",
+        ] {
+            assert_eq!(assign(&mut bad, 20, number, uri), refused(10, 0));
+            assert_eq!(assign(&mut bad, 21, number, uri), refused(1, 0));
+            assert_eq!(assign(&mut good, 109, number, uri), refused(10, 0));
+        }
+    }
+    // Within it: the walk's refusal, or 12.
+    for (number, _) in POWERS {
+        for uri in [&b""[..], b"a:", b"urn:lozizol:type"] {
+            assert_eq!(assign(&mut bad, 20, number, uri), refused(2, 0));
+            assert_eq!(assign(&mut good, 109, number, uri), refused(12, 109));
+        }
+        for uri in [&b"a"[..], b"urn:lozizol:header", b"urn:lozizol:deleted"] {
+            assert_eq!(assign(&mut good, 109, number, uri), refused(10, 0));
+        }
+    }
+    assert_eq!((bad, good), (vec![0; 20], header));
+    // 11 comes before 12, and so does 7, at the used length.
+    let mut none = book(&[&assigns(1, b"")]);
+    assert_eq!(assign(&mut none, 112, LIMIT, b"a:"), refused(11, 0));
+    assert_eq!(assign(&mut none, 112, LIMIT, b""), refused(11, 0));
+    let mut full = book(&[&many(2, 30)]);
+    assert_eq!(assign(&mut full, 259, LIMIT, b"a:"), refused(7, 259));
+    assert_eq!(assign(&mut full, 259, LIMIT, b""), refused(12, 259));
+}
+
+#[test]
+fn the_whole_number_counts() {
+    // Alike 0, 1 and 111 in their low bytes, as types.
+    for high in [1 << 8, 1 << 16, 1 << 28, 1 << 32, 1 << 35, 1 << 56, 1 << 62] {
+        for low in [0, 1, 111] {
+            let number = high + low;
+            let bytes = record(number, b"\x02a:");
+            assert_eq!(refusal_of(&bytes), Some((6, 109)), "{number}");
+            // As assigned numbers: not 0, and no place for a header.
+            let front = assigns(number, b"a:");
+            let plain = record(number, b"\x80");
+            assert_eq!(refusal_of(&[&front[..], &plain].concat()), None);
+            let header = assigns(number, b"urn:lozizol:header");
+            assert_eq!(refusal_of(&header), Some((5, 109)));
+            let mut buf = book(&[&[0; 50]]);
+            let answer = assign(&mut buf, 109, number, b"urn:lozizol:header");
+            assert_eq!(answer, refused(10, 0));
+            // 1 and 111 stay when it is removed, and it when they are.
+            let bytes = [&front[..], &assigns(number, b""), &front, &book(&[])].concat();
+            assert_eq!(refusal_of(&bytes), None);
+            let bytes = [&front[..], &assigns(111, b""), &assigns(1, b""), &plain].concat();
+            assert_eq!(refusal_of(&bytes), None);
+        }
+    }
+    // Only the removals' own numbers are gone.
+    let front = [assigns(5, b"a:"), assigns((1 << 32) + 5, b"b:")].concat();
+    let last = [record(5, b""), record((1 << 32) + 5, b"")];
+    let uris = |removed| {
+        let log = book(&[&front, &assigns(removed, b""), &last[0], &last[1]]);
+        items(&log).0.len()
+    };
+    // A header, three assignments, then what is read up to the refusal.
+    assert_eq!([5, (1 << 32) + 5, (1 << 33) + 5].map(uris), [4, 5, 6]);
+}
+
+#[test]
+fn rows_of_any_number_from_outside() {
+    let fits = |number: u64, implied: bool| {
+        let log = book(&[b"a:", &record(number.min(LIMIT), b"Q")]);
+        let mut reading = Reading::fresh();
+        (reading.position, reading.held) = (111, 1);
+        let (place, length) = if implied { (0, 0) } else { (109, 2) };
+        reading.rows[0] = Row {
+            number,
+            implied,
+            place,
+            length,
+        };
+        let (answer, next) = reading.step(&log, log.len());
+        assert!(answer.is_ok() || next == reading);
+        answer.map(|_| next.position)
+    };
+    assert_eq!(fits(0, false), refused(13, 0));
+    for number in [1, 111].into_iter().chain(POWERS.map(|(number, _)| number)) {
+        let behind = 111 + 2 + writing(number).len();
+        assert_eq!(fits(number, false), Ok(behind), "{number}");
+    }
+    for number in [LIMIT + 1, LIMIT + 2, LIMIT + 112, u64::MAX - 1, u64::MAX] {
+        assert_eq!(fits(number, false), refused(13, 0), "{number}");
+        assert_eq!(fits(number, true), refused(13, 0), "{number}");
+    }
+    // Implied: 1 (an assignment, here of Q to nothing: a removal) and 111 only.
+    assert_eq!(fits(1, true), Ok(114));
+    assert_eq!(fits(111, true), refused(3, 111));
+    for number in [0, 2, 110, 112, (1 << 32) + 1, (1 << 32) + 111, LIMIT] {
+        assert_eq!(fits(number, true), refused(13, 0), "{number}");
+    }
+}
+
+/// Takes the last of 32 rows out of use, all zero but for this number.
+fn free_last_row(reading: &mut Reading, number: u64) {
+    reading.held = 31;
+    reading.rows[31] = Row {
+        number,
+        ..Row::default()
+    };
+}
+
+#[test]
+fn readings_with_32_numbers_of_nine_bytes() {
+    let (buf, used) = full_of_nine();
+    let (_, end, _) = items(&buf[..used]);
+    assert_eq!(end.step(&buf, used).0, Ok(Item::End { place: used }));
+    let changes: [fn(&mut Reading); 13] = [
+        |r| r.rows[31].number = LIMIT + 1,
+        |r| r.rows[31].number = u64::MAX,
+        |r| r.rows[31].number = r.rows[30].number, // not rising strictly
+        |r| r.rows[31].number = LIMIT & 0xFFFF_FFFF,
+        |r| r.rows[0].number = 0,
+        |r| r.rows[0].number = LIMIT,
+        |r| r.rows[0].number = r.rows[1].number + 1,
+        |r| r.rows[0].implied = true,
+        |r| r.rows.swap(3, 4),
+        |r| r.held = 31,
+        |r| r.held = 33,
+        |r| free_last_row(r, 1 << 32), // an unused row is zero in all of its number
+        |r| free_last_row(r, LIMIT + 1),
+    ];
+    for (index, change) in changes.iter().enumerate() {
+        let mut odd = end.clone();
+        change(&mut odd);
+        let answer = (refused(13, 0), odd.clone());
+        assert_eq!(odd.step(&buf, used), answer, "{index}");
+        // 1 comes first.
+        assert_eq!(odd.step(&buf, usize::MAX).0, refused(1, 0));
+    }
+}
+
+#[test]
+fn readings_with_other_numbers_that_fit() {
+    let (buf, used) = full_of_nine();
+    let (_, end, _) = items(&buf[..used]);
+    let changes: [fn(&mut Reading); 4] = [
+        |r| r.rows[31].number = LIMIT,
+        |r| r.rows[31].number = r.rows[30].number + 1,
+        |r| r.rows[0].number = 1,
+        |r| free_last_row(r, 0),
+    ];
+    for change in changes {
+        let mut fine = end.clone();
+        change(&mut fine);
+        let answer = (Ok(Item::End { place: used }), fine.clone());
+        assert_eq!(fine.step(&buf, used), answer);
+    }
+}
+
+#[test]
+fn types_of_nine_bytes_are_erased_and_wiped() {
+    for (number, stores) in [(LIMIT, 10), (1 << 56, 9), (LIMIT - 127, 9)] {
+        let front = assigns(number, b"a:");
+        let tail = record(number, b"R");
+        let mut buf = book(&[&front, &record(number, b"Q"), &tail]);
+        let (used, place) = (buf.len(), 109 + front.len());
+        let before = buf.clone();
+        assert_eq!(erase(&mut buf, used, 109), refused(9, 109));
+        // One store, at the first type byte; the other eight stay.
+        assert_eq!(erase(&mut buf, used, place), Ok(place + 1));
+        let mut erased = before.clone();
+        erased[place + 1] = 0;
+        assert_eq!(buf, erased);
+        let list = entries(&buf);
+        assert_eq!(list[2], (place + 11, b"a:".to_vec(), b"R".to_vec()));
+        assert_eq!(erase(&mut buf, used, place), refused(8, place));
+        // Each store on its own changes no list.
+        for store in 0..stores {
+            assert_eq!(entries(&buf), list, "{store}");
+            assert_eq!(wipe(&mut buf, used, place, 1), Ok(1));
+        }
+        assert_eq!(entries(&buf), list);
+        assert_eq!(buf[place..place + 11], [0; 11]);
+        assert_eq!(wipe(&mut buf, used, place, 1), refused(8, place));
+        assert_eq!(wipe(&mut erased, used, place, 99), Ok(stores));
+        assert_eq!(erased, buf);
+    }
+}
+
 /// A small generator, so that each run is the same.
 struct Random(u64);
 
@@ -820,7 +1465,8 @@ fn random_calls_keep_the_demands() {
                     }
                 },
                 1 => {
-                    let number = random.pick(&[0, 1, 2, 3, 111, 128, 70_000]);
+                    let numbers = [0, 1, 2, 3, 111, 128, 70_000, 1 << 32, LIMIT, LIMIT + 1];
+                    let number = random.pick(&numbers);
                     match assign(&mut buf, used, number, uri) {
                         Err(_) => true,
                         Ok(Appended { place, used: end }) => {
@@ -860,11 +1506,14 @@ fn check_byte(buf: &[u8], Refusal { number, place }: Refusal) {
     match number {
         14 => assert_eq!(buf[place], 0x80),
         15 => {
-            assert_ne!(buf[place - 3], 0x80);
-            assert!(buf[place - 3..=place].iter().all(|&byte| byte >= 0x80));
+            // The fourth byte of a size or the ninth of a type.
+            let long = [4, 9].map(|bytes| &buf[place + 1 - bytes..=place]);
+            assert!(long
+                .iter()
+                .any(|bytes| bytes[0] != 0x80 && bytes.iter().all(|&byte| byte >= 0x80)));
         }
         16 => {
-            let size = (1..4).find(|&size| usize::from(buf[place - size]) == size);
+            let size = (1..9).find(|&size| usize::from(buf[place - size]) == size);
             let body = &buf[place + 1 - size.unwrap()..=place];
             assert_ne!(body[0], 0x80);
             assert!(body.iter().all(|&byte| byte >= 0x80));
@@ -879,10 +1528,14 @@ fn any_bytes_and_any_reading_end_in_an_answer() {
     let bytes = [
         0, 0, 0, 0, 1, 1, 2, 3, 4, 5, 0x6F, 0x7F, 0x80, 0x81, 0xFF, b'a', b':',
     ];
+    // For types of many bytes.
+    let long = [0, 8, 9, 10, 0x7F, 0x80, 0x81, 0xFF, 0xFF, 0xFF, 0xFF];
     let odd = [0, 1, 2, 110, 125, 255, 256, u32::MAX, u32::MAX - 1];
+    let numbers = [0, 1, 2, 111, 1 << 32, LIMIT - 1, LIMIT, LIMIT + 1, u64::MAX];
     let mut seen = [0; 17];
     for _ in 0..60_000 {
-        let tail: Vec<u8> = (0..16).map(|_| random.pick(&bytes)).collect();
+        let from = random.pick(&[&bytes[..], &long]);
+        let tail: Vec<u8> = (0..16).map(|_| random.pick(from)).collect();
         let mut buf = book(&[&tail]);
         let used = random.pick(&[0, 109, 117, 124, 125, 125, 125, 126, usize::MAX]);
         let mut reading = Reading::fresh();
@@ -890,7 +1543,7 @@ fn any_bytes_and_any_reading_end_in_an_answer() {
         reading.count = random.pick(&[0, 1, 126, usize::MAX]);
         reading.held = random.pick(&[0, 0, 1, 2, 3, 32, 33, usize::MAX]);
         for row in &mut reading.rows[..random.below(4)] {
-            row.number = random.pick(&odd);
+            row.number = random.pick(&numbers);
             row.implied = random.below(2) == 0;
             row.place = random.pick(&odd);
             row.length = random.pick(&odd);

@@ -10,7 +10,7 @@ use lib.ListN.{length, drop, length-drop, take-append-drop}
 use lib.Dec.{leb, eqb}
 use lib.Seq.{length-take-le}
 use Rattle.format.specs.Laws.Cases.{by-test, by-order, and-left, and-right}
-use Rattle.format.specs.Figures.{usedLimit, integerBytes, integerLimit, dataLimit, headerLength}
+use Rattle.format.specs.Figures.{usedLimit, numberBytes, numberLimit, dataLimit, headerLength}
 use Rattle.format.specs.Integers.{writeInteger}
 use Rattle.format.specs.Uris.{typeName, isUri, isReserved, appendable}
 use Rattle.format.specs.Register.{isHeld, Names, namedNumber, numberFor, freeFrom}
@@ -40,7 +40,7 @@ bad-append u d = rw (over-not (length d) dataLimit) (go (leb (length d) dataLimi
 
 bad-assign : (n : ℕ) (u : List ℕ) → badRequest (assign n u) ≡ not (mayAssign n u)
 unfolding badRequest mayAssign
-bad-assign n u = rw (zero-not n, over-not n integerLimit) (go (leb 1 n) (leb n integerLimit) (assignable n u))
+bad-assign n u = rw (zero-not n, over-not n numberLimit) (go (leb 1 n) (leb n numberLimit) (assignable n u))
   where
     zero-not : (m : ℕ) → eqb m 0 ≡ not (leb 1 m)
     zero-not zero = refl
@@ -113,7 +113,7 @@ module _ (b : Book) (h : sound b ≡ true) where
   assign-stage g n u none e = rw e (denies _)
   assign-stage g n u (some t) e =
       by-test (roomFor n u g)
-      (λ f. rw (e, too-many n u g, f) (write-verdict (assign n u) 0 (recordOf t (writeInteger integerBytes n ++ u)) (assigns n u)))
+      (λ f. rw (e, too-many n u g, f) (write-verdict (assign n u) 0 (recordOf t (writeInteger numberBytes n ++ u)) (assigns n u)))
       (λ f. rw (e, too-many n u g, f) (full-verdict (assign n u)))
 
   new-stage : (g : Names) (u d : List ℕ) → numberFor u g ≡ none → (x : Option ℕ) → numberFor typeName g ≡ x

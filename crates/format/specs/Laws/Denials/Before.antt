@@ -7,7 +7,7 @@ use mathlib.Core.Option.{Option, none, some, Option·map}
 use Prim.Native.Nat.{ℕ, zero, suc}
 use native.Mathlib.Omega.{arith}
 use Rattle.format.specs.Laws.Cases.{by-test, true-false, or-true}
-use Rattle.format.specs.Figures.{integerBytes}
+use Rattle.format.specs.Figures.{sizeBytes, numberBytes}
 use Rattle.format.specs.Integers.{Integer}
 use Rattle.format.specs.Register.{Names}
 use Rattle.format.specs.Laws.Register.{some-some}
@@ -42,16 +42,16 @@ module _ (p : ℕ) where
 -- ---- 01's condition holds where one of the three's does
 module _ (p : ℕ) (l : List ℕ) where
   abbrev typeBroken : Bool
-  typeBroken = leadsWith80 (bodyAt l) || (isTooLong (bodyAt l) || (isPastSize (bodyAt l) || false))
+  typeBroken = leadsWith80 (bodyAt l) || (isTooLong numberBytes (bodyAt l) || (isPastSize (bodyAt l) || false))
 
-  type-broken : (t : Integer) → ByTests integerBytes (bodyAt l) t → (isFaulty t || isUnfinished t) ≡ typeBroken
+  type-broken : (t : Integer) → ByTests numberBytes (bodyAt l) t → (isFaulty t || isUnfinished t) ≡ typeBroken
   unfolding isTooLong isPastSize
   type-broken t (leading a) = rw a
   type-broken t (long a b) = rw (a, b)
   type-broken t (short a b c) = rw (a, b, c)
   type-broken t (over v k a b c) = rw (a, b, c)
 
-  size-broken : (s t : Integer) → ByTests integerBytes l s → ByTests integerBytes (bodyAt l) t
+  size-broken : (s t : Integer) → ByTests sizeBytes l s → ByTests numberBytes (bodyAt l) t
       → (isFaulty s || (isFaulty t || isUnfinished t)) ≡ anyDue (integerRules p l)
   unfolding anyDue integerRules isTooLong
   size-broken s t (leading a) d = rw a
@@ -63,8 +63,8 @@ module _ (p : ℕ) (l : List ℕ) where
   unfolding isBroken sizeAt typeAt
   broken-split =
       size-broken (sizeAt l) (typeAt l)
-      (read-tests integerBytes l (omega arith))
-      (read-tests integerBytes (bodyAt l) (omega arith))
+      (read-tests sizeBytes l (omega arith))
+      (read-tests numberBytes (bodyAt l) (omega arith))
 
 -- ---- so the two tables differ in the three alone
 module _ (g : Names) (p : ℕ) (l : List ℕ) where

@@ -15,7 +15,7 @@ use Rattle.format.specs.Laws.Cases.{by-test, by-order, from-zero-one, an
 use Rattle.format.specs.Bytes.{same}
 use Rattle.format.specs.Laws.Bytes.{same-equal}
 use Rattle.format.specs.Text.{ascii}
-use Rattle.format.specs.Figures.{integerBytes, rowLimit, headerLength}
+use Rattle.format.specs.Figures.{sizeBytes, numberBytes, rowLimit, headerLength}
 use Rattle.format.specs.Integers.{Integer, value, broken, notOver}
 use Rattle.format.specs.Uris.{typeName, headerName}
 use Rattle.format.specs.Header.{headerForm}
@@ -149,8 +149,8 @@ module _ (g : Names) (p : ℕ) (l : List ℕ) where
           rw (← d) (uri-stage (p + k) (p + k + j) n (rw (e, positive m, q)) u (rw (e, q)))
 
   -- a record that is whole: its size takes k bytes, and its last byte is n behind the first
-  type-stage : (s k n : ℕ) → isIncomplete l ≡ false → leadsWith80 l ≡ false → isTooLong l ≡ false → sizeAt l ≡ value s k
-      → pred (length (recordAt l)) ≡ n → (v : Integer) → typeAt l ≡ v → ByTests integerBytes (bodyAt l) v
+  type-stage : (s k n : ℕ) → isIncomplete l ≡ false → leadsWith80 l ≡ false → isTooLong sizeBytes l ≡ false → sizeAt l ≡ value s k
+      → pred (length (recordAt l)) ≡ n → (v : Integer) → typeAt l ≡ v → ByTests numberBytes (bodyAt l) v
       → refusalOfGot (typePart v p k (recordAt l) (bodyAt l) n g) ≡ firstOf (recordRules g p l)
   unfolding firstOf recordRules integerRules typePart isTooLong isPastSize typePlace lastPlace
   type-stage s k n a b c d f v e (leading t) = rw (a, b, c, d, t, add-zero)
@@ -158,7 +158,7 @@ module _ (g : Names) (p : ℕ) (l : List ℕ) where
   type-stage s k n a b c d f v e (short t u w) = rw (a, b, c, t, u, w, f)
   type-stage s k n a b c d f v e (over x j t u w) = rw (a, b, c, t, u, w) (meaning-stage k n x j e)
 
-  size-stage : (v : Integer) → sizeAt l ≡ v → ByTests integerBytes l v → refusalOfGot (sizePart v p l g) ≡ firstOf (recordRules g p l)
+  size-stage : (v : Integer) → sizeAt l ≡ v → ByTests sizeBytes l v → refusalOfGot (sizePart v p l g) ≡ firstOf (recordRules g p l)
   unfolding firstOf recordRules integerRules sizePart isIncomplete isTooLong recordAt bodyAt typeAt leadsWith80
   size-stage v e (leading t) = rw (e, le-ltb (length l) 0 (omega arith), t, add-zero)
   size-stage v e (long t u) = rw (e, le-ltb (length l) 0 (omega arith), t, u)
@@ -171,14 +171,14 @@ module _ (g : Names) (p : ℕ) (l : List ℕ) where
       let n : length (recordAt l) ≡ k + s = ap length w ∙ length-take-le (k + s) l (leb-true (k + s) (length l) h) in
       rw (h, ← w, ← b)
       (type-stage s k (pred (k + s)) (rw (e, over-not (k + s) (length l), h)) t u e (ap pred n)
-      (typeAt l) refl (read-tests integerBytes (bodyAt l) (omega arith))))
+      (typeAt l) refl (read-tests numberBytes (bodyAt l) (omega arith))))
       (λ h. rw (e, over-not (k + s) (length l), h))
 
 pub element-refusal : (g : Names) (p x : ℕ) (xs : List ℕ)
     → refusalOfGot (element g p x xs) ≡ firstOf (elementRules (x ∷ xs) (recordRules g p (x ∷ xs)))
 unfolding element elementRules firstOf sizeAt
 element-refusal g p zero xs = refl
-element-refusal g p (suc x) xs = size-stage g p (suc x ∷ xs) (sizeAt (suc x ∷ xs)) refl (read-tests integerBytes (suc x ∷ xs) (omega arith))
+element-refusal g p (suc x) xs = size-stage g p (suc x ∷ xs) (sizeAt (suc x ∷ xs)) refl (read-tests sizeBytes (suc x ∷ xs) (omega arith))
 
 header-refusal : (l : List ℕ) → refusalOfGot (headerAt l) ≡ firstOf (headerRules l)
 unfolding headerAt headerRules firstOf

@@ -3,7 +3,7 @@ use mathlib.Core.Path.{_≡_, refl, sym, ap, _∙_, subst}
 use mathlib.Core.Bool.{true, _&&_}
 use mathlib.Core.List.{List, [], _∷_, _++_, append-assoc, append-nil}
 use mathlib.Core.Option.{Option, none, some, Option·map}
-use Prim.Native.Nat.{ℕ, zero, suc, _+_, _≤_}
+use Prim.Native.Nat.{ℕ, zero, suc, pred, _+_, _^_, _≤_, _<_}
 use native.Mathlib.Omega.{arith}
 use native.Mathlib.Nat.{add-zero, add-assoc}
 use borrow.Author.Tests.{leb-true, eq-eqb}
@@ -11,7 +11,7 @@ use lib.ListN.{length, drop, length-append, length-drop}
 use lib.Dec.{leb}
 use lib.Seq.{drop-at, drop-append-add}
 use Rattle.format.specs.Laws.Cases.{by-test, from-zero-one, and-left, and-right}
-use Rattle.format.specs.Figures.{usedLimit, integerBytes, integerLimit, dataLimit, uriLimit}
+use Rattle.format.specs.Figures.{usedLimit, sizeBytes, numberBytes, numberLimit, dataLimit, uriLimit}
 use Rattle.format.specs.Integers.{writeInteger}
 use Rattle.format.specs.Uris.{typeName, headerName, appendable}
 use Rattle.format.specs.Laws.Uris.{appendable-type, appendable-header}
@@ -26,7 +26,7 @@ use Rattle.format.specs.Laws.Requests.{AskedAppend, asked-append, AskedA
 use Rattle.format.specs.Laws.Order.Items.{not-stop}
 use Rattle.format.specs.Laws.Order.Standing.{Number, Stands, stands-none, stands-more, walk-stands}
 use Rattle.format.specs.Laws.Order.Wiping.{size-of}
-use Rattle.format.specs.Laws.Order.Writing.{write-reads, write-long, held-by}
+use Rattle.format.specs.Laws.Order.Writing.{write-reads, number-long, held-by}
 use Rattle.format.specs.Laws.Order.Runs.{sound-book}
 use Rattle.format.specs.Laws.Lists.Shapes.{shape-allowed}
 use Rattle.format.specs.Laws.Lists.Rolls.{roll}
@@ -47,20 +47,23 @@ logbook-more : {l : List ℕ} {es : List Listed} {r r1 : Register} → Logbook l
 logbook-more (logbookOf h {x = x} f s) w e el = rw (append-assoc h x w) (logbookOf h f (sequence-more s w e (rw (length-append h x) at el)))
 
 -- ---- what is written
-pub written-integer : (n : ℕ) → n ≤ integerLimit → Writing (writeInteger integerBytes n) n
-written-integer n h = size-of (writeInteger integerBytes n) n (rw append-nil at (write-reads n h []))
+written-integer : (k n : ℕ) → n < 128 ^ suc k → Writing (suc k) (writeInteger (suc k) n) n
+written-integer k n h = size-of (writeInteger (suc k) n) n (rw append-nil at (write-reads k n h []))
+
+pub written-number : (n : ℕ) → n ≤ numberLimit → Writing numberBytes (writeInteger numberBytes n) n
+written-number n h = written-integer (pred numberBytes) n (omega (arith, h))
 
 written-record : (t : ℕ) (d : List ℕ) → Number t → length d ≤ 70000 → RecordOf (recordOf t d) t d
 unfolding recordOf
 written-record t d (a, b) l =
-    let e = write-long t b in
-    let z : length (writeInteger integerBytes t ++ d) ≡ length (writeInteger integerBytes t) + length d = length-append (writeInteger integerBytes t) d in
+    let e = number-long t in
+    let z : length (writeInteger numberBytes t ++ d) ≡ length (writeInteger numberBytes t) + length d = length-append (writeInteger numberBytes t) d in
     record {
-      size = writeInteger integerBytes (length (writeInteger integerBytes t) + length d);
-      type = writeInteger integerBytes t;
+      size = writeInteger sizeBytes (length (writeInteger numberBytes t) + length d);
+      type = writeInteger numberBytes t;
       all = refl;
-      sized = rw z (written-integer (length (writeInteger integerBytes t) + length d) (omega arith));
-      typed = written-integer t b;
+      sized = rw z (written-integer (pred sizeBytes) (length (writeInteger numberBytes t) + length d) (omega arith));
+      typed = written-number t b;
     }
 
 -- ---- the numbers that the calls take
@@ -94,7 +97,7 @@ entry-element : (r : Register) (p n : ℕ) (w d u : List ℕ) → 1 ≤ n → Re
 entry-element r p zero w d u o c h a = absurd (omega arith)
 entry-element r p (suc n) w d u o c h a = entry c h (other-name u headerName (appendable-header u a)) (other-name u typeName (appendable-type u a))
 
-assign-element : (g : Names) (p t k : ℕ) (w m u : List ℕ) → 1 ≤ t → 1 ≤ k → RecordOf w t (m ++ u) → uriOf t g ≡ some typeName → Writing m k → assignable k u ≡ true → roomFor k u g ≡ true
+assign-element : (g : Names) (p t k : ℕ) (w m u : List ℕ) → 1 ≤ t → 1 ≤ k → RecordOf w t (m ++ u) → uriOf t g ≡ some typeName → Writing numberBytes m k → assignable k u ≡ true → roomFor k u g ≡ true
     → Element (meaning g) p w (listedAt p typeName (m ++ u) ∷ []) (change (meaning g) k (standsFor u))
 unfolding assignable roomFor standsFor
 assign-element g p zero k w m u o i c h x a r = absurd (omega arith)
@@ -122,8 +125,8 @@ module _ (l : List ℕ) (g : Names) (s : Stands l g) where
   held-record : (u d : List ℕ) (n : ℕ) → length d ≤ dataLimit → numberFor u g ≡ some n → RecordOf (recordOf n d) n d
   held-record u d n f h = written-record n d (held-by l g u n s h .number) (omega arith)
 
-  pub assign-record : (t k : ℕ) (u : List ℕ) → k ≤ integerLimit → length u ≤ uriLimit → numberFor typeName g ≡ some t → RecordOf (recordOf t (writeInteger integerBytes k ++ u)) t (writeInteger integerBytes k ++ u)
-  assign-record t k u a f h = let w = write-long k a in held-record typeName (writeInteger integerBytes k ++ u) t (rw length-append (omega arith)) h
+  pub assign-record : (t k : ℕ) (u : List ℕ) → k ≤ numberLimit → length u ≤ uriLimit → numberFor typeName g ≡ some t → RecordOf (recordOf t (writeInteger numberBytes k ++ u)) t (writeInteger numberBytes k ++ u)
+  assign-record t k u a f h = let w = number-long k in held-record typeName (writeInteger numberBytes k ++ u) t (rw length-append (omega arith)) h
 
   pub added-held : (u d : List ℕ) (n : ℕ) → AskedAppend u d → numberFor u g ≡ some n → Added (meaning g) (length l) u d (recordOf n d) (listedAt (length l) u d ∷ []) (meaning g) (length l)
   added-held u d n a h = asHeld n (least-number l g u n s h) (held-record u d n (a .fewBytes) h)
@@ -132,11 +135,11 @@ module _ (l : List ℕ) (g : Names) (s : Stands l g) where
   free-record d f = written-record (free g) d free-numbers (omega arith)
 
   pub added-new : (u d : List ℕ) (t : ℕ) → AskedAppend u d → numberFor u g ≡ none → numberFor typeName g ≡ some t
-      → Added (meaning g) (length l) u d (recordOf t (writeInteger integerBytes (free g) ++ u) ++ recordOf (free g) d)
-      (listedAt (length l) typeName (writeInteger integerBytes (free g) ++ u) ∷ listedAt (length l + length (recordOf t (writeInteger integerBytes (free g) ++ u))) u d ∷ []) (change (meaning g) (free g) (some u)) (length l + length (recordOf t (writeInteger integerBytes (free g) ++ u)))
+      → Added (meaning g) (length l) u d (recordOf t (writeInteger numberBytes (free g) ++ u) ++ recordOf (free g) d)
+      (listedAt (length l) typeName (writeInteger numberBytes (free g) ++ u) ∷ listedAt (length l + length (recordOf t (writeInteger numberBytes (free g) ++ u))) u d ∷ []) (change (meaning g) (free g) (some u)) (length l + length (recordOf t (writeInteger numberBytes (free g) ++ u)))
   added-new u d t a h ht =
       asNew t (free g) (no-number g u h) (least-number l g typeName t s ht) (free-number g (s .rising)) (assign-record t (free g) u (free-numbers .1) (a .uriShort) ht)
-      (written-integer (free g) (free-numbers .1)) (free-record d (a .fewBytes))
+      (written-number (free g) (free-numbers .1)) (free-record d (a .fewBytes))
 
 -- ---- a write
 not-appended : {P : Type 0} {x : Refusal} {s s1 : Parts} {q n : ℕ} → _≡_ {A = Left} (denied x, s) (appended q n, s1) → P
@@ -205,12 +208,12 @@ module _ (l rest : List ℕ) (b : length l ≤ usedLimit) (some-bytes : 1 ≤ le
         (appends (added-held l g stands u d n asked h) (grown (recordOf n d) l rest N (roll logbook 0 [] 0 l) (listedAt (length l) u d ∷ []) (meaning g) (meaning g) b (w .fits) (w .small) (w .used) before k1))
 
     append-new : (t q N : ℕ) (s1 : Parts) → numberFor u g ≡ none → numberFor typeName g ≡ some t → roomFor (free g) u g ≡ true
-        → Wrote (length (recordOf t (writeInteger integerBytes (free g) ++ u))) (recordOf t (writeInteger integerBytes (free g) ++ u) ++ recordOf (free g) d) l rest q N s1 → Appends (bookOf (parts l rest)) (bookOf s1) u d q N
+        → Wrote (length (recordOf t (writeInteger numberBytes (free g) ++ u))) (recordOf t (writeInteger numberBytes (free g) ++ u) ++ recordOf (free g) d) l rest q N s1 → Appends (bookOf (parts l rest)) (bookOf s1) u d q N
     unfolding bookOf
     append-new t q N s1 h ht rm w =
         let v : ℕ = free g in
         let nv : Number v = free-numbers l g stands in
-        let m : List ℕ = writeInteger integerBytes v in
+        let m : List ℕ = writeInteger numberBytes v in
         let hb = held-by l g typeName t stands ht in
         let w1 : List ℕ = recordOf t (m ++ u) in
         let c : RecordOf w1 t (m ++ u) = assign-record l g stands t v u (nv .1) (asked .uriShort) ht in
@@ -219,7 +222,7 @@ module _ (l rest : List ℕ) (b : length l ≤ usedLimit) (some-bytes : 1 ≤ le
         let e2 : List Listed = listedAt (length l + length w1) u d ∷ [] in
         let r1 : Register = change (meaning g) v (some u) in
         let k1 : Logbook (l ++ w1) (es ++ e1) r1
-        = rw (stands-some u (asked .uriSome)) at (logbook-more before w1 e1 (assign-element g (length l) t v w1 m u (hb .number .0) (nv .0) c (hb .names) (written-integer v (nv .1)) (asked .uriAny v) rm)) in
+        = rw (stands-some u (asked .uriSome)) at (logbook-more before w1 e1 (assign-element g (length l) t v w1 m u (hb .number .0) (nv .0) c (hb .names) (written-number v (nv .1)) (asked .uriAny v) rm)) in
         let k2 : Logbook ((l ++ w1) ++ recordOf v d) ((es ++ e1) ++ e2) r1
         = logbook-more k1 (recordOf v d) e2 (rw (length-append l w1) (entry-element r1 (length l + length w1) v (recordOf v d) d u (nv .0) (free-record l g stands d (asked .fewBytes)) (change-here (meaning g) v (some u)) (asked .uriGood))) in
         let k3 : Logbook (l ++ (w1 ++ recordOf v d)) (es ++ (e1 ++ e2)) r1 = rw (append-assoc l w1 (recordOf v d), append-assoc es e1 e2) at k2 in
@@ -232,7 +235,7 @@ module _ (l rest : List ℕ) (b : length l ≤ usedLimit) (some-bytes : 1 ≤ le
     append-typed (some t) q N s1 ht h e =
         by-test (roomFor (freeFrom namedNumber 1 g) u g)
         (λ r. append-new t q N s1 h ht r
-        (wrote (length (recordOf t (writeInteger integerBytes (freeFrom namedNumber 1 g) ++ u))) (recordOf t (writeInteger integerBytes (freeFrom namedNumber 1 g) ++ u) ++ recordOf (freeFrom namedNumber 1 g) d) l rest q N s1 (rw r at e)))
+        (wrote (length (recordOf t (writeInteger numberBytes (freeFrom namedNumber 1 g) ++ u))) (recordOf t (writeInteger numberBytes (freeFrom namedNumber 1 g) ++ u) ++ recordOf (freeFrom namedNumber 1 g) d) l rest q N s1 (rw r at e)))
         (λ r. not-appended (rw r at e))
 
     append-named : (v : Option ℕ) (q N : ℕ) (s1 : Parts) → numberFor u g ≡ v → appendHeld v g u d (parts l rest) ≡ (appended q N, s1) → Appends (bookOf (parts l rest)) (bookOf s1) u d q N
@@ -241,14 +244,14 @@ module _ (l rest : List ℕ) (b : length l ≤ usedLimit) (some-bytes : 1 ≤ le
     append-named none q N s1 h e = append-typed (numberFor typeName g) q N s1 refl h e
 
   module _ (k : ℕ) (u : List ℕ) (asked : AskedAssign k u) where
-    assign-one : (t q N : ℕ) (s1 : Parts) → numberFor typeName g ≡ some t → roomFor k u g ≡ true → Wrote 0 (recordOf t (writeInteger integerBytes k ++ u)) l rest q N s1 → Assigns (bookOf (parts l rest)) (bookOf s1) k u q N
+    assign-one : (t q N : ℕ) (s1 : Parts) → numberFor typeName g ≡ some t → roomFor k u g ≡ true → Wrote 0 (recordOf t (writeInteger numberBytes k ++ u)) l rest q N s1 → Assigns (bookOf (parts l rest)) (bookOf s1) k u q N
     unfolding bookOf
     assign-one t q N s1 ht rm w =
-        let m : List ℕ = writeInteger integerBytes k in
+        let m : List ℕ = writeInteger numberBytes k in
         let hb = held-by l g typeName t stands ht in
         let w1 : List ℕ = recordOf t (m ++ u) in
         let c : RecordOf w1 t (m ++ u) = assign-record l g stands t k u (asked .number .1) (asked .uriShort) ht in
-        let x : Writing m k = written-integer k (asked .number .1) in
+        let x : Writing numberBytes m k = written-number k (asked .number .1) in
         let e1 : List Listed = listedAt (length l) typeName (m ++ u) ∷ [] in
         let k1 : Logbook (l ++ w1) (roll logbook 0 [] 0 l ++ e1) (change (meaning g) k (standsFor u))
         = logbook-more before w1 e1 (assign-element g (length l) t k w1 m u (hb .number .0) (asked .number .0) c (hb .names) x (asked .uriGood) rm) in
@@ -260,7 +263,7 @@ module _ (l rest : List ℕ) (b : length l ≤ usedLimit) (some-bytes : 1 ≤ le
     assign-typed none q N s1 ht e = not-appended e
     assign-typed (some t) q N s1 ht e =
         by-test (roomFor k u g)
-        (λ r. assign-one t q N s1 ht r (wrote 0 (recordOf t (writeInteger integerBytes k ++ u)) l rest q N s1 (rw r at e)))
+        (λ r. assign-one t q N s1 ht r (wrote 0 (recordOf t (writeInteger numberBytes k ++ u)) l rest q N s1 (rw r at e)))
         (λ r. not-appended (rw r at e))
 
 -- ---- any log

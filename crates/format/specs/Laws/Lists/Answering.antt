@@ -11,7 +11,7 @@ use lib.ListN.{length, take, drop, length-append}
 use lib.Dec.{leb}
 use lib.Seq.{take-at, drop-at}
 use Rattle.format.specs.Laws.Cases.{by-test, from-zero-one}
-use Rattle.format.specs.Figures.{usedLimit, integerBytes}
+use Rattle.format.specs.Figures.{usedLimit, numberBytes}
 use Rattle.format.specs.Integers.{writeInteger}
 use Rattle.format.specs.Uris.{typeName}
 use Rattle.format.specs.Register.{Rising, Names, namedNumber, uriOf, numberFor, hasRoom}
@@ -27,7 +27,7 @@ use Rattle.format.specs.Laws.Lists.Walking.{ItemOf, deleted-item, parse-
 use Rattle.format.specs.Laws.Lists.Steps.{on-sound, used-of}
 use Rattle.format.specs.Laws.Lists.Places.{call-sound}
 use Rattle.format.specs.Laws.Requests.{AskedAppend, asked-append, AskedAssign, asked-assign}
-use Rattle.format.specs.Laws.Lists.Adding.{written-integer, least-number, no-number, free-number, free, assign-record, added-held, added-new}
+use Rattle.format.specs.Laws.Lists.Adding.{written-number, least-number, no-number, free-number, free, assign-record, added-held, added-new}
 
 -- ---- a deleted record of the grammar is found
 look-item : {g h : Names} {p : ℕ} {w : List ℕ} {i : Item} → ItemOf g h p w i → (t : List ℕ) → look logbook 0 0 g p (w ++ t) ≡ here i
@@ -128,8 +128,8 @@ module _ (l rest : List ℕ) (b : length l ≤ usedLimit) (some-bytes : 1 ≤ le
     append-new h none ht = noType (no-number g u h) (no-number g typeName ht) (append-does (denied (refusal 11 0)) (parts l rest) (rw (h, ht)))
     append-new h (some t) ht =
         by-test (roomFor (free g) u g)
-        (λ rm. let w : List ℕ = recordOf t (writeInteger integerBytes (free g) ++ u) in
-        append-written (length w) (w ++ recordOf (free g) d) (listedAt (length l) typeName (writeInteger integerBytes (free g) ++ u) ∷ listedAt (length l + length w) u d ∷ []) (change (meaning g) (free g) (some u)) (length l + length w)
+        (λ rm. let w : List ℕ = recordOf t (writeInteger numberBytes (free g) ++ u) in
+        append-written (length w) (w ++ recordOf (free g) d) (listedAt (length l) typeName (writeInteger numberBytes (free g) ++ u) ∷ listedAt (length l + length w) u d ∷ []) (change (meaning g) (free g) (some u)) (length l + length w)
         (added-new l g stands u d t asked h ht) (λ n. roomy g (free g) u rm (free-number g (stands .rising) .notHeld) (asked .uriSome)) (rw (h, ht, rm)) (written (length w) (w ++ recordOf (free g) d) l rest))
         (λ rm. noRoom t (no-number g u h) (least-number l g typeName t stands ht) (cramped g (free g) u (stands .rising) rm .full) (append-does (denied (refusal 7 (length l))) (parts l rest) (rw (h, ht, rm))))
 
@@ -143,13 +143,13 @@ module _ (l rest : List ℕ) (b : length l ≤ usedLimit) (some-bytes : 1 ≤ le
     unfolding call assignWalked
     assign-does x s1 e = call-sound (assign k u) l rest b ∙ rw (may, walk-start logbook l (past-start logbook (length l) some-bytes), walks, e)
 
-    assign-written : (t : ℕ) → numberFor typeName g ≡ some t → roomFor k u g ≡ true → assignUnder (numberFor typeName g) g k u (parts l rest) ≡ write 0 (recordOf t (writeInteger integerBytes k ++ u)) (parts l rest) → Written 0 (recordOf t (writeInteger integerBytes k ++ u)) l rest
+    assign-written : (t : ℕ) → numberFor typeName g ≡ some t → roomFor k u g ≡ true → assignUnder (numberFor typeName g) g k u (parts l rest) ≡ write 0 (recordOf t (writeInteger numberBytes k ++ u)) (parts l rest) → Written 0 (recordOf t (writeInteger numberBytes k ++ u)) l rest
         → AssignAnswer (bookOf (parts l rest)) k u (meaning g)
     unfolding bookOf
     assign-written t ht rm e (goesIn p n s1 x) = putIn p n (bookOf s1) (assign-does (appended p n) s1 (e ∙ x))
     assign-written t ht rm e (tooLong v x) =
         let a : AskedAssign k u = asked-assign k u may in
-        noFit t (recordOf t (writeInteger integerBytes k ++ u)) (writeInteger integerBytes k) (least-number l g typeName t stands ht) (assign-record l g stands t k u (a .number .1) (a .uriShort) ht) (written-integer k (a .number .1)) (roomy g k u rm) v
+        noFit t (recordOf t (writeInteger numberBytes k ++ u)) (writeInteger numberBytes k) (least-number l g typeName t stands ht) (assign-record l g stands t k u (a .number .1) (a .uriShort) ht) (written-number k (a .number .1)) (roomy g k u rm) v
         (assign-does (denied (refusal 12 (length l))) (parts l rest) (e ∙ x))
 
     assign-typed : (p : Option ℕ) → numberFor typeName g ≡ p → AssignAnswer (bookOf (parts l rest)) k u (meaning g)
@@ -157,7 +157,7 @@ module _ (l rest : List ℕ) (b : length l ≤ usedLimit) (some-bytes : 1 ≤ le
     assign-typed none ht = noType (no-number g typeName ht) (assign-does (denied (refusal 11 0)) (parts l rest) (rw ht))
     assign-typed (some t) ht =
         by-test (roomFor k u g)
-        (λ rm. assign-written t ht rm (rw (ht, rm)) (written 0 (recordOf t (writeInteger integerBytes k ++ u)) l rest))
+        (λ rm. assign-written t ht rm (rw (ht, rm)) (written 0 (recordOf t (writeInteger numberBytes k ++ u)) l rest))
         (λ rm. let c : Cramped g k u = cramped g k u (stands .rising) rm in
         noRoom t (least-number l g typeName t stands ht) (c .notHeld) (c .someUri) (c .full) (assign-does (denied (refusal 7 (length l))) (parts l rest) (rw (ht, rm))))
 

@@ -7,6 +7,7 @@ use native.Mathlib.Omega.{arith}
 use native.Mathlib.Nat.{zero-add}
 use lib.ListN.{length, take, set, replicate, length-append}
 use lib.Seq.{set-at}
+use Rattle.format.specs.Figures.{sizeBytes, numberBytes}
 use Rattle.format.specs.Register.{Names, namedNumber, Rising}
 use Rattle.format.specs.Records.{plain, Entry, deleted, live, got, logbook, atHeader, item}
 use Rattle.format.specs.Reading.{whole, walk}
@@ -24,11 +25,11 @@ use Rattle.format.specs.Laws.Lists.Steps.{past-of}
 use Rattle.format.specs.Laws.Lists.Places.{item-tells}
 
 -- ---- deleted records and padding give no entry
-zero-writing : Writing (0 ∷ []) 0
+zero-writing : Writing numberBytes (0 ∷ []) 0
 unfolding High NoEmptyLead leadsValue
 zero-writing = writing [] 0 refl tt tt (omega arith) (omega arith) (omega arith)
 
-pub deleted-record : (a b : List ℕ) → Writing a (suc (length b)) → RecordOf (a ++ (0 ∷ b)) 0 b
+pub deleted-record : (a b : List ℕ) → Writing sizeBytes a (suc (length b)) → RecordOf (a ++ (0 ∷ b)) 0 b
 deleted-record a b s = record { size = a; type = 0 ∷ []; all = refl; sized = s; typed = zero-writing }
 
 zeros-sequence : (r : Register) (p n : ℕ) → Sequence r p (replicate n 0) [] r

@@ -13,7 +13,7 @@ use lib.Seq.{length-take-le, take-at, drop-at, drop-drop, take-all}
 use Rattle.format.specs.Laws.Cases.{and-left, by-test, from-zero-one}
 use Rattle.format.specs.Bytes.{same}
 use Rattle.format.specs.Laws.Bytes.{same-equal, equal-same}
-use Rattle.format.specs.Figures.{integerBytes, headerLength}
+use Rattle.format.specs.Figures.{sizeBytes, numberBytes, headerLength}
 use Rattle.format.specs.Integers.{value, readInteger}
 use Rattle.format.specs.Laws.Integers.{read-exact}
 use Rattle.format.specs.Uris.{typeName, headerName}
@@ -36,15 +36,15 @@ pub other-name : (u v : List ℕ) → same u v ≡ false → u ≡ v → ⊥
 other-name u v e q = from-zero-one (let d : true ≡ false = sym (equal-same u v q) ∙ e in cc)
 
 -- an integer read from b is written by its first bytes
-pub read-writing : (b : List ℕ) (v j : ℕ) → readInteger integerBytes b ≡ value v j → Writing (take j b) v
+pub read-writing : (b : List ℕ) (v j : ℕ) → readInteger numberBytes b ≡ value v j → Writing numberBytes (take j b) v
 read-writing b v j e =
-    let q = read-exact integerBytes b v j e in
+    let q = read-exact numberBytes b v j e in
     size-of (take j b) v (rw (length-take-le j b (q .inside)) (rw append-nil at (q .exact [])))
 
-pub sizes-writing : (a b : List ℕ) → Sizes a b → Writing a (length b)
+pub sizes-writing : (a b : List ℕ) → Sizes a b → Writing sizeBytes a (length b)
 sizes-writing a b m = size-of a (length b) (rw append-nil at (m []))
 
-unfoldable pub record-read : (a b : List ℕ) (v j : ℕ) → Sizes a b → readInteger integerBytes b ≡ value v j → RecordOf (a ++ b) v (drop j b)
+unfoldable pub record-read : (a b : List ℕ) (v j : ℕ) → Sizes a b → readInteger numberBytes b ≡ value v j → RecordOf (a ++ b) v (drop j b)
 record-read a b v j m e =
     record {
       size = a;
@@ -56,7 +56,7 @@ record-read a b v j m e =
 
 module _ (g : Names) (rises : Rising namedNumber 0 g) (p : ℕ) (w : List ℕ) (a : ℕ) where
   -- an assignment of u, written m
-  assigned-element : (d m u : List ℕ) (c q : ℕ) → d ≡ m ++ u → RecordOf w (suc a) d → uriOf (suc a) g ≡ some typeName → Writing m (suc c) → assignable (suc c) u ≡ true → roomFor (suc c) u g ≡ true
+  assigned-element : (d m u : List ℕ) (c q : ℕ) → d ≡ m ++ u → RecordOf w (suc a) d → uriOf (suc a) g ≡ some typeName → Writing numberBytes m (suc c) → assignable (suc c) u ≡ true → roomFor (suc c) u g ≡ true
       → Element (meaning g) p w (listedAt p typeName d ∷ []) (meaning (assigned (suc c) q u g))
   unfolding assignable roomFor
   assigned-element d m [] c q e r s v x y =
@@ -82,7 +82,7 @@ pub first-two : (n : ℕ) (a b ys : List ℕ) → n ≡ length (a ++ b) → take
 first-two n a b ys k = rw (← (append-assoc a b ys)) (take-at (a ++ b) ys n (sym k))
 
 form-element : (g h : Names) (p x n : ℕ) (xs : List ℕ) (i : Item) → Rising namedNumber 0 g → Form g p (x ∷ xs) i n h → Element (meaning g) p (x ∷ take n xs) (told i) (meaning h)
-form-element g h p x n xs i t (form [] b ys e m j z) = absurd (omega (arith, read-exact integerBytes [] (length b) 0 (m []) .some))
+form-element g h p x n xs i t (form [] b ys e m j z) = absurd (omega (arith, read-exact sizeBytes [] (length b) 0 (m []) .some))
 form-element g h p x n xs i t (form (y ∷ a) b ys e m j z) =
     let k : suc n ≡ length ((y ∷ a) ++ b) = rw length-append (omega arith) in
     let v : x ∷ take n xs ≡ (y ∷ a) ++ b = ap (take (suc n)) e ∙ first-two (suc n) (y ∷ a) b ys k in

@@ -12,7 +12,7 @@ use lib.Seq.{length-take-le, drop-at}
 use Rattle.format.specs.Laws.Cases.{by-test, from-zero-one, true-false}
 use Rattle.format.specs.Bytes.{partOf}
 use Rattle.format.specs.Laws.Bytes.{part-more}
-use Rattle.format.specs.Figures.{integerBytes, headerLength}
+use Rattle.format.specs.Figures.{sizeBytes, numberBytes, headerLength}
 use Rattle.format.specs.Integers.{value, readInteger}
 use Rattle.format.specs.Laws.Integers.{read-exact}
 use Rattle.format.specs.Uris.{typeName, headerName}
@@ -56,11 +56,11 @@ entry-at l p q k y w d r e t c f g =
 
 -- ---- a record that is judged
 module _ (l : List ℕ) (p q : ℕ) (a b : List ℕ) (here : partOf p q l ≡ a ++ b) (ends : q ≡ p + length a + length b) (m : Sizes a b) (g : Names) where
-  live-at : (y : Named) (k : Kind) (n j : ℕ) → readInteger integerBytes b ≡ value n j → find namedNumber n g ≡ some y → ItemAt l p q (live (entryOf p (p + length a) k y (p + length a + j) (drop j b)))
+  live-at : (y : Named) (k : Kind) (n j : ℕ) → readInteger numberBytes b ≡ value n j → find namedNumber n g ≡ some y → ItemAt l p q (live (entryOf p (p + length a) k y (p + length a + j) (drop j b)))
   unfolding record-read
   live-at y k n j r s =
       let z : rowFor y .number ≡ n = rows-number y ∙ find-number namedNumber n g y s in
-      let i : length (take j b) ≡ j = length-take-le j b (read-exact integerBytes b n j r .inside) in
+      let i : length (take j b) ≡ j = length-take-le j b (read-exact numberBytes b n j r .inside) in
       anEntry _ (entry-at l p q k y (a ++ b) (drop j b) (record-read a b (rowFor y .number) j m (r ∙ ap (λ (x : ℕ). value x j) (sym z))) here (p + length a) (p + length a + j) refl (rw i))
 
   judged-at : (w : List ℕ) (n o : ℕ) (h : Names) (i : Item) → Judgement p (length a) w b n g i o h → ItemAt l p q i
@@ -90,7 +90,7 @@ module _ (l : List ℕ) (p : ℕ) (x : ℕ) (xs : List ℕ) (here : drop p l ≡
 
   form-at : (g h : Names) (n : ℕ) (i : Item) → Form g p (x ∷ xs) i n h → ItemAt l p (p + suc n) i
   form-at g h n i (form a b ys e m j z) =
-      let s : 1 ≤ length a = read-exact integerBytes (a ++ []) (length b) (length a) (m []) .some in
+      let s : 1 ≤ length a = read-exact sizeBytes (a ++ []) (length b) (length a) (m []) .some in
       let k : suc n ≡ length (a ++ b) = rw length-append (omega arith) in
       let w : partOf p (p + suc n) l ≡ a ++ b = part-here (suc n) ∙ ap (take (suc n)) e ∙ first-two (suc n) a b ys k in
       judged-at l p (p + suc n) a b w (omega arith) m g (a ++ b) (pred (length a + length b)) n h i (judgement p (length a) (a ++ b) b (pred (length a + length b)) g j)

@@ -10,7 +10,7 @@ use lib.ListN.{length, drop, length-append}
 use lib.Seq.{drop-at}
 use Rattle.format.specs.Bytes.{same}
 use Rattle.format.specs.Laws.Bytes.{same-self, other-same}
-use Rattle.format.specs.Figures.{integerBytes, headerLength}
+use Rattle.format.specs.Figures.{sizeBytes, numberBytes, headerLength}
 use Rattle.format.specs.Integers.{value, readInteger}
 use Rattle.format.specs.Uris.{typeName, headerName}
 use Rattle.format.specs.Header.{headerForm}
@@ -33,7 +33,7 @@ pub record ItemOf (g h : Names) (p : ℕ) (w : List ℕ) (i : Item) : Type 0 whe
   pub is : w ≡ head ∷ tail
   pub gets : item theLogbook g p head tail ≡ got i (length tail) h
 
-record-item : (g h : Names) (p n : ℕ) (a b : List ℕ) (i : Item) → 1 ≤ p → Writing a (length b) → 1 ≤ length b → judged g p a b ≡ got i n h → ItemOf g h p (a ++ b) i
+record-item : (g h : Names) (p n : ℕ) (a b : List ℕ) (i : Item) → 1 ≤ p → Writing sizeBytes a (length b) → 1 ≤ length b → judged g p a b ≡ got i n h → ItemOf g h p (a ++ b) i
 unfolding element
 record-item g h p n a b i o (writing q z e hi lead low few v) l j = go (head-of q z hi (omega arith))
   where
@@ -50,10 +50,10 @@ record-item g h p n a b i o (writing q z e hi lead low few v) l j = go (head-of 
 item-of-part : {g h : Names} {p : ℕ} {w : List ℕ} {i : Item} → ItemOf g h p w i → Part theLogbook g p w (told i) h
 item-of-part {g} {h} {p} {w} {i} c = rw (c .is) (item-part theLogbook g h p (c .head) (c .tail) i (c .gets))
 
-record-part : (g h : Names) (p n : ℕ) (a b : List ℕ) (i : Item) → 1 ≤ p → Writing a (length b) → 1 ≤ length b → judged g p a b ≡ got i n h → Part theLogbook g p (a ++ b) (told i) h
+record-part : (g h : Names) (p n : ℕ) (a b : List ℕ) (i : Item) → 1 ≤ p → Writing sizeBytes a (length b) → 1 ≤ length b → judged g p a b ≡ got i n h → Part theLogbook g p (a ++ b) (told i) h
 record-part g h p n a b i o w l j = item-of-part (record-item g h p n a b i o w l j)
 
-judged-named : (g : Names) (p n : ℕ) (a t d : List ℕ) (y : Named) → Writing t (suc n) → find namedNumber (suc n) g ≡ some y
+judged-named : (g : Names) (p n : ℕ) (a t d : List ℕ) (y : Named) → Writing numberBytes t (suc n) → find namedNumber (suc n) g ≡ some y
     → judged g p a (t ++ d) ≡ dataPart y p (p + length a) (p + length a + length t) (a ++ (t ++ d)) d (pred (length a + length (t ++ d))) g
 unfolding typePart namedPart
 judged-named g p n a t d y w l = rw (writing-reads t (suc n) w d, l, drop-at t d (length t) refl)
@@ -69,7 +69,7 @@ pub type-not-header : same typeName headerName ≡ false
 unfolding same typeName headerName
 type-not-header = refl
 
-pub writing-long : (a d : List ℕ) (v : ℕ) → Writing a v → 1 ≤ length (a ++ d)
+pub writing-long : {n : ℕ} (a d : List ℕ) (v : ℕ) → Writing n a v → 1 ≤ length (a ++ d)
 writing-long a d v (writing q z e h f l m s) = rw (e, length-append, length-append) (omega arith)
 
 rising-implied : Rising namedNumber 0 impliedNames
@@ -124,7 +124,7 @@ module _ (g : Names) (t : Rising namedNumber 0 g) (p : ℕ) (o : 1 ≤ p) (w d :
       (parsed-live n (v .row) impliedNames (entryOf p (p + length (c .size)) header (v .row) (p + length (c .size) + length (c .type)) d) rising-implied c (v .found)
       (rw (v .named, same-self headerName, ← (c .all), f)))
 
-  parsed-assigned : (n k : ℕ) (m u : List ℕ) → d ≡ m ++ u → RecordOf w (suc n) d → uriOf (suc n) g ≡ some typeName → Writing m (suc k) → assignable (suc k) u ≡ true → roomFor (suc k) u g ≡ true
+  parsed-assigned : (n k : ℕ) (m u : List ℕ) → d ≡ m ++ u → RecordOf w (suc n) d → uriOf (suc n) g ≡ some typeName → Writing numberBytes m (suc k) → assignable (suc k) u ≡ true → roomFor (suc k) u g ≡ true
       → (q : ℕ) × Parsed g p w (listedAt p typeName d ∷ []) (meaning (assigned (suc k) q u g))
   unfolding dataPart assignmentPart
   parsed-assigned n k m u e c l v x y =
@@ -133,7 +133,7 @@ module _ (g : Names) (t : Rising namedNumber 0 g) (p : ℕ) (o : 1 ≤ p) (w d :
       let i : same (namedUri (z .row)) headerName ≡ false = rw (z .named) type-not-header in
       let j : same (namedUri (z .row)) typeName ≡ true = rw (z .named) (same-self typeName) in
       let b : drop (length m) d ≡ u = rw e (drop-at m u (length m) refl) in
-      let a : readInteger integerBytes d ≡ value (suc k) (length m) = rw e (writing-reads m (suc k) v u) in (
+      let a : readInteger numberBytes d ≡ value (suc k) (length m) = rw e (writing-reads m (suc k) v u) in (
         q + length m,
         rw (z .named) at
             (parsed-live n (z .row) (assigned (suc k) (q + length m) u g) (entryOf p (p + length (c .size)) (assignment (suc k) (q + length m) u) (z .row) q d) (rising-assigned g k (q + length m) u t) c (z .found)

@@ -3,7 +3,7 @@ use mathlib.Core.Path.{_≡_, refl, sym, ap, _∙_}
 use mathlib.Core.Bool.{true, false, _&&_}
 use mathlib.Core.List.{List, [], _∷_, _++_, append-assoc, append-nil}
 use mathlib.Core.Option.{Option, none, some}
-use Prim.Native.Nat.{ℕ, zero, suc, pred, _+_, _*_, _-_, _≤_}
+use Prim.Native.Nat.{ℕ, zero, suc, pred, _+_, _*_, _-_, _^_, _≤_, _<_}
 use native.Mathlib.Omega.{arith}
 use native.Mathlib.Nat.{zero-add}
 use borrow.Author.Tests.{leb-true, ne-eqb}
@@ -12,7 +12,7 @@ use lib.Dec.{leb}
 use lib.Seq.{drop-at}
 use Rattle.format.specs.Laws.Cases.{by-test, by-equality, from-zero-one, and-right}
 use Rattle.format.specs.Bytes.{same}
-use Rattle.format.specs.Figures.{usedLimit, integerBytes, integerLimit}
+use Rattle.format.specs.Figures.{usedLimit, sizeBytes, numberBytes, numberLimit}
 use Rattle.format.specs.Integers.{value, readInteger, writeInteger, widthOf}
 use Rattle.format.specs.Laws.Integers.{value-value, read-write, read-start, digits-last, low-is-no-lead, width-bounds}
 use Rattle.format.specs.Uris.{typeName, headerName}
@@ -28,74 +28,81 @@ use Rattle.format.specs.Laws.Order.Items.{judged, Piece, piece-join, rec
 use Rattle.format.specs.Laws.Order.Standing.{All, Number, StandsRow, Stands, stands-more, walk-stands}
 use Rattle.format.specs.Laws.Order.Frames.{Fits, fits-stands, Good, EarlyOf, early-refused, early-erase, early-wipe, aimed-early, ends-with}
 
--- ---- a written number
-module _ (n : ℕ) (h : n ≤ integerLimit) where
-  pub write-reads : (t : List ℕ) → readInteger integerBytes (writeInteger integerBytes n ++ t) ≡ value n (length (writeInteger integerBytes n))
+-- ---- a written integer of at most k + 1 bytes
+module _ (k n : ℕ) where
+  pub write-long : (1 ≤ length (writeInteger (suc k) n)) × (length (writeInteger (suc k) n) ≤ suc k)
   unfolding widthOf
-  write-reads t = read-write (pred integerBytes) n t (omega (arith, h))
+  write-long = width-bounds k n
 
-  pub write-long : (1 ≤ length (writeInteger integerBytes n)) × (length (writeInteger integerBytes n) ≤ integerBytes)
-  unfolding widthOf
-  write-long = width-bounds (pred integerBytes) n
+  module _ (h : n < 128 ^ suc k) where
+    pub write-reads : (t : List ℕ) → readInteger (suc k) (writeInteger (suc k) n ++ t) ≡ value n (length (writeInteger (suc k) n))
+    unfolding widthOf
+    write-reads t = read-write k n t h
 
-  write-first : 1 ≤ n → (x : ℕ) × (c : List ℕ) × (writeInteger integerBytes n ≡ suc x ∷ c)
-  write-first p = go (writeInteger integerBytes n) refl
-    where
-      go : (w : List ℕ) → writeInteger integerBytes n ≡ w → (x : ℕ) × (c : List ℕ) × (writeInteger integerBytes n ≡ suc x ∷ c)
-      go [] e = absurd (omega (arith, write-long, ap length e))
-      go (suc x ∷ c) e = (x, c, e)
-      go (zero ∷ c) e =
-          let z : readInteger integerBytes (0 ∷ (c ++ [])) ≡ value n (suc (length c)) = rw e at (write-reads []) in
-          let y : readInteger integerBytes (0 ∷ (c ++ [])) ≡ value (0 * 128 + 0) 1 = read-start integerBytes 0 (c ++ []) (low-is-no-lead 0 (omega arith)) ∙ digits-last (pred integerBytes) 0 0 0 (c ++ []) (omega arith) in
-          absurd (omega (arith, value-value (sym y ∙ z)))
+    write-first : 1 ≤ n → (x : ℕ) × (c : List ℕ) × (writeInteger (suc k) n ≡ suc x ∷ c)
+    write-first p = go (writeInteger (suc k) n) refl
+      where
+        go : (w : List ℕ) → writeInteger (suc k) n ≡ w → (x : ℕ) × (c : List ℕ) × (writeInteger (suc k) n ≡ suc x ∷ c)
+        go [] e = absurd (omega (arith, write-long, ap length e))
+        go (suc x ∷ c) e = (x, c, e)
+        go (zero ∷ c) e =
+            let z : readInteger (suc k) (0 ∷ (c ++ [])) ≡ value n (suc (length c)) = rw e at (write-reads []) in
+            let y : readInteger (suc k) (0 ∷ (c ++ [])) ≡ value (0 * 128 + 0) 1 = read-start (suc k) 0 (c ++ []) (low-is-no-lead 0 (omega arith)) ∙ digits-last k 0 0 0 (c ++ []) (omega arith) in
+            absurd (omega (arith, value-value (sym y ∙ z)))
+
+pub number-long : (n : ℕ) → (1 ≤ length (writeInteger numberBytes n)) × (length (writeInteger numberBytes n) ≤ numberBytes)
+number-long n = write-long (pred numberBytes) n
+
+pub number-reads : (n : ℕ) → n ≤ numberLimit → (t : List ℕ) → readInteger numberBytes (writeInteger numberBytes n ++ t) ≡ value n (length (writeInteger numberBytes n))
+number-reads n h = write-reads (pred numberBytes) n (omega (arith, h))
 
 -- ---- a written record
 module _ (o : Origin) where
   pub record-written : (h h1 : Names) (p t n : ℕ) (d : List ℕ) (i : Item) → atHeader o p ≡ false → Number t → length d ≤ 70000
-      → judged h p (writeInteger integerBytes (length (writeInteger integerBytes t) + length d)) (writeInteger integerBytes t ++ d) ≡ got i n h1
+      → judged h p (writeInteger sizeBytes (length (writeInteger numberBytes t) + length d)) (writeInteger numberBytes t ++ d) ≡ got i n h1
       → Piece o h p (recordOf t d) h1
   unfolding recordOf
   record-written h h1 p t n d i f nt l j =
-      let wt = write-long t (nt .1) in
-      let s : ℕ = length (writeInteger integerBytes t) + length d in
-      let z : length (writeInteger integerBytes t ++ d) ≡ length (writeInteger integerBytes t) + length d = length-append (writeInteger integerBytes t) d in
-      let x = write-first (length (writeInteger integerBytes t) + length d) (omega arith) (omega arith) in
-      record-piece o h h1 p n (writeInteger integerBytes s) (writeInteger integerBytes t ++ d) (x .0) (x .1) i f
-      (λ r. rw z (write-reads (length (writeInteger integerBytes t) + length d) (omega arith) r)) j (x .2)
+      let wt = number-long t in
+      let s : ℕ = length (writeInteger numberBytes t) + length d in
+      let z : length (writeInteger numberBytes t ++ d) ≡ length (writeInteger numberBytes t) + length d = length-append (writeInteger numberBytes t) d in
+      let x = write-first (pred sizeBytes) (length (writeInteger numberBytes t) + length d) (omega arith) (omega arith) in
+      record-piece o h h1 p n (writeInteger sizeBytes s) (writeInteger numberBytes t ++ d) (x .0) (x .1) i f
+      (λ r. rw z (write-reads (pred sizeBytes) (length (writeInteger numberBytes t) + length d) (omega arith) r)) j (x .2)
 
 -- ---- how it is judged
 type-judged : (h : Names) (p k t : ℕ) (w d : List ℕ) (y : Named) (n : ℕ) → Number t → find namedNumber t h ≡ some y
-    → typePart (readInteger integerBytes (writeInteger integerBytes t ++ d)) p k w (writeInteger integerBytes t ++ d) n h
-    ≡ dataPart y p (p + k) (p + k + length (writeInteger integerBytes t)) w d n h
+    → typePart (readInteger numberBytes (writeInteger numberBytes t ++ d)) p k w (writeInteger numberBytes t ++ d) n h
+    ≡ dataPart y p (p + k) (p + k + length (writeInteger numberBytes t)) w d n h
 unfolding typePart namedPart
 type-judged h p k zero w d y n (a, b) e = absurd (omega arith)
 type-judged h p k (suc t) w d y n (a, b) e =
-    rw (write-reads (suc t) b d, e, drop-at (writeInteger integerBytes (suc t)) d (length (writeInteger integerBytes (suc t))) refl)
+    rw (number-reads (suc t) b d, e, drop-at (writeInteger numberBytes (suc t)) d (length (writeInteger numberBytes (suc t))) refl)
 
 pub entry-judged : (h : Names) (p t : ℕ) (a d : List ℕ) (y : Named) → Number t → find namedNumber t h ≡ some y → same (namedUri y) headerName ≡ false → same (namedUri y) typeName ≡ false
-    → judged h p a (writeInteger integerBytes t ++ d) ≡ got (live (entryOf p (p + length a) plain y (p + length a + length (writeInteger integerBytes t)) d)) (pred (length a + length (writeInteger integerBytes t ++ d))) h
+    → judged h p a (writeInteger numberBytes t ++ d) ≡ got (live (entryOf p (p + length a) plain y (p + length a + length (writeInteger numberBytes t)) d)) (pred (length a + length (writeInteger numberBytes t ++ d))) h
 unfolding dataPart
-entry-judged h p t a d r nt e x y = type-judged h p (length a) t (a ++ (writeInteger integerBytes t ++ d)) d r (pred (length a + length (writeInteger integerBytes t ++ d))) nt e ∙ rw (x, y)
+entry-judged h p t a d r nt e x y = type-judged h p (length a) t (a ++ (writeInteger numberBytes t ++ d)) d r (pred (length a + length (writeInteger numberBytes t ++ d))) nt e ∙ rw (x, y)
 
 number-judged : (h : Names) (y : Named) (p t q n m : ℕ) (u : List ℕ) → Number n → assignable n u ≡ true → roomFor n u h ≡ true
-    → assignmentPart (readInteger integerBytes (writeInteger integerBytes n ++ u)) y p t q (writeInteger integerBytes n ++ u) m h
-    ≡ got (live (entryOf p t (assignment n (q + length (writeInteger integerBytes n)) u) y q (writeInteger integerBytes n ++ u))) m
-    (assigned n (q + length (writeInteger integerBytes n)) u h)
+    → assignmentPart (readInteger numberBytes (writeInteger numberBytes n ++ u)) y p t q (writeInteger numberBytes n ++ u) m h
+    ≡ got (live (entryOf p t (assignment n (q + length (writeInteger numberBytes n)) u) y q (writeInteger numberBytes n ++ u))) m
+    (assigned n (q + length (writeInteger numberBytes n)) u h)
 unfolding assignmentPart
 number-judged h y p t q zero m u (a, b) x r = absurd (omega arith)
 number-judged h y p t q (suc n) m u (a, b) x r =
-    rw (write-reads (suc n) b u, drop-at (writeInteger integerBytes (suc n)) u (length (writeInteger integerBytes (suc n))) refl, x, r)
+    rw (number-reads (suc n) b u, drop-at (writeInteger numberBytes (suc n)) u (length (writeInteger numberBytes (suc n))) refl, x, r)
 
 pub assign-judged : (h : Names) (p t n : ℕ) (a u : List ℕ) (y : RowOf h t typeName) → Number t → Number n → assignable n u ≡ true → roomFor n u h ≡ true
-    → judged h p a (writeInteger integerBytes t ++ (writeInteger integerBytes n ++ u))
-    ≡ got (live (entryOf p (p + length a) (assignment n (p + length a + length (writeInteger integerBytes t) + length (writeInteger integerBytes n)) u) (y .row) (p + length a + length (writeInteger integerBytes t)) (writeInteger integerBytes n ++ u)))
-    (pred (length a + length (writeInteger integerBytes t ++ (writeInteger integerBytes n ++ u)))) (assigned n (p + length a + length (writeInteger integerBytes t) + length (writeInteger integerBytes n)) u h)
+    → judged h p a (writeInteger numberBytes t ++ (writeInteger numberBytes n ++ u))
+    ≡ got (live (entryOf p (p + length a) (assignment n (p + length a + length (writeInteger numberBytes t) + length (writeInteger numberBytes n)) u) (y .row) (p + length a + length (writeInteger numberBytes t)) (writeInteger numberBytes n ++ u)))
+    (pred (length a + length (writeInteger numberBytes t ++ (writeInteger numberBytes n ++ u)))) (assigned n (p + length a + length (writeInteger numberBytes t) + length (writeInteger numberBytes n)) u h)
 unfolding dataPart same typeName headerName
 assign-judged h p t n a u y nt nn x r =
     let i : same (namedUri (y .row)) headerName ≡ false = rw (y .named) refl in
     let j : same (namedUri (y .row)) typeName ≡ true = rw (y .named) refl in
-    type-judged h p (length a) t (a ++ (writeInteger integerBytes t ++ (writeInteger integerBytes n ++ u))) (writeInteger integerBytes n ++ u) (y .row) (pred (length a + length (writeInteger integerBytes t ++ (writeInteger integerBytes n ++ u)))) nt (y .found)
-    ∙ rw (i, j) (number-judged h (y .row) p (p + length a) (p + length a + length (writeInteger integerBytes t)) n (pred (length a + length (writeInteger integerBytes t ++ (writeInteger integerBytes n ++ u)))) u nn x r)
+    type-judged h p (length a) t (a ++ (writeInteger numberBytes t ++ (writeInteger numberBytes n ++ u))) (writeInteger numberBytes n ++ u) (y .row) (pred (length a + length (writeInteger numberBytes t ++ (writeInteger numberBytes n ++ u)))) nt (y .found)
+    ∙ rw (i, j) (number-judged h (y .row) p (p + length a) (p + length a + length (writeInteger numberBytes t)) n (pred (length a + length (writeInteger numberBytes t ++ (writeInteger numberBytes n ++ u)))) u nn x r)
 
 -- ---- held numbers
 all-found : (P : Named → Type 0) (n : ℕ) (r : Named) (g : Names) → All namedNumber P g → find namedNumber n g ≡ some r → P r
@@ -160,9 +167,9 @@ module _ (o : Origin) (begin : Stands [] (o .names)) where
   high-stands p g lo hi q f l = walk-stands (lo ++ hi) o 0 g (q .names) p hi (drop-at lo hi p l) (stands-more lo hi g (fits-stands o begin lo g f)) (q .walks)
 
   -- two records, the first an assignment, and one record
-  record-some : (t : ℕ) (d : List ℕ) → t ≤ integerLimit → 1 ≤ length (recordOf t d)
+  record-some : (t : ℕ) (d : List ℕ) → t ≤ numberLimit → 1 ≤ length (recordOf t d)
   unfolding recordOf
-  record-some t d h = rw (length-append, length-append) (omega (arith, write-long t h))
+  record-some t d h = rw (length-append, length-append) (omega (arith, write-long (pred sizeBytes) (length (writeInteger numberBytes t) + length d)))
 
   module _ (u d : List ℕ) (p : ℕ) (g : Names) (hi rest l0 : List ℕ) (q : Good o begin g p hi) (f0 : Fits o begin l0 g) (n0 : length l0 ≡ p) where
     stands : Stands (l0 ++ hi) (q .names)
@@ -178,10 +185,10 @@ module _ (o : Origin) (begin : Stands [] (o .names)) where
         let f = k .fewBytes in
         let y = row-of h n u e in
         record-written o h h P n
-        (pred (length (writeInteger integerBytes (length (writeInteger integerBytes n) + length d)) + length (writeInteger integerBytes n ++ d))) d
-        (live (entryOf P (P + length (writeInteger integerBytes (length (writeInteger integerBytes n) + length d))) plain (y .row) (P + length (writeInteger integerBytes (length (writeInteger integerBytes n) + length d)) + length (writeInteger integerBytes n)) d))
+        (pred (length (writeInteger sizeBytes (length (writeInteger numberBytes n) + length d)) + length (writeInteger numberBytes n ++ d))) d
+        (live (entryOf P (P + length (writeInteger sizeBytes (length (writeInteger numberBytes n) + length d))) plain (y .row) (P + length (writeInteger sizeBytes (length (writeInteger numberBytes n) + length d)) + length (writeInteger numberBytes n)) d))
         z nn (omega arith)
-        (entry-judged h P n (writeInteger integerBytes (length (writeInteger integerBytes n) + length d)) d (y .row) nn (y .found) (rw (y .named) (appendable-header u (k .uriGood))) (rw (y .named) (appendable-type u (k .uriGood))))
+        (entry-judged h P n (writeInteger sizeBytes (length (writeInteger numberBytes n) + length d)) d (y .row) nn (y .found) (rw (y .named) (appendable-header u (k .uriGood))) (rw (y .named) (appendable-type u (k .uriGood))))
 
     append-held : mayAppend u d ≡ true → (n : ℕ) → numberFor u (q .names) ≡ some n → EarlyOf o begin (append u d) p g hi rest
     unfolding appendHeld
@@ -203,20 +210,20 @@ module _ (o : Origin) (begin : Stands [] (o .names)) where
         let b = held-by (l0 ++ hi) (q .names) typeName t stands k in
         let a = asked-append u d m in
         let f = a .uriShort in
-        let w = writeInteger integerBytes freed in
-        let wl = write-long freed (freed-number .1) in
-        let s = writeInteger integerBytes (length (writeInteger integerBytes t) + length (w ++ u)) in
+        let w = writeInteger numberBytes freed in
+        let wl = number-long freed in
+        let s = writeInteger sizeBytes (length (writeInteger numberBytes t) + length (w ++ u)) in
         let P : ℕ = p + length hi in
-        let h1 : Names = assigned freed (P + length s + length (writeInteger integerBytes t) + length w) u (q .names) in
+        let h1 : Names = assigned freed (P + length s + length (writeInteger numberBytes t) + length w) u (q .names) in
         let p1 : Piece o (q .names) P (recordOf t (w ++ u)) h1 =
-        record-written o (q .names) h1 P t (pred (length s + length (writeInteger integerBytes t ++ (w ++ u)))) (w ++ u)
-        (live (entryOf P (P + length s) (assignment freed (P + length s + length (writeInteger integerBytes t) + length w) u) (row-of (q .names) t typeName (b .names) .row) (P + length s + length (writeInteger integerBytes t)) (w ++ u)))
+        record-written o (q .names) h1 P t (pred (length s + length (writeInteger numberBytes t ++ (w ++ u)))) (w ++ u)
+        (live (entryOf P (P + length s) (assignment freed (P + length s + length (writeInteger numberBytes t) + length w) u) (row-of (q .names) t typeName (b .names) .row) (P + length s + length (writeInteger numberBytes t)) (w ++ u)))
         (q .ends) (b .number) (rw length-append (omega arith))
         (assign-judged (q .names) P t freed s u (row-of (q .names) t typeName (b .names)) (b .number) freed-number (a .uriAny freed) r) in
         let n1 : 1 ≤ length (recordOf t (w ++ u)) = record-some t (w ++ u) (b .number .1) in
         let p2 : Piece o h1 (P + length (recordOf t (w ++ u))) (recordOf freed d) h1 =
         entry-piece h1 (P + length (recordOf t (w ++ u))) freed m (past-start o (P + length (recordOf t (w ++ u))) (omega arith)) freed-number
-        (uri-assigned freed (P + length s + length (writeInteger integerBytes t) + length w) u (q .names) (a .uriSome)) in
+        (uri-assigned freed (P + length s + length (writeInteger numberBytes t) + length w) u (q .names) (a .uriSome)) in
         write-early (length (recordOf t (w ++ u))) (recordOf t (w ++ u) ++ recordOf freed d) p g h1 (append u d) hi rest q
         (piece-join o (q .names) h1 h1 P (recordOf t (w ++ u)) (recordOf freed d) p1 p2) (rw length-append (omega arith))
         (λ lo f l. append-at m lo f l ∙ rw (e, k, r))
@@ -254,15 +261,15 @@ module _ (o : Origin) (begin : Stands [] (o .names)) where
         let b = held-by (l0 ++ hi) (q .names) typeName t (high-stands p g l0 hi q f0 n0) k in
         let a = asked-assign n u m in
         let nn = a .number in
-        let w = writeInteger integerBytes n in
-        let wl = write-long n (nn .1) in
+        let w = writeInteger numberBytes n in
+        let wl = number-long n in
         let ul = a .uriShort in
-        let s = writeInteger integerBytes (length (writeInteger integerBytes t) + length (w ++ u)) in
+        let s = writeInteger sizeBytes (length (writeInteger numberBytes t) + length (w ++ u)) in
         let P : ℕ = p + length hi in
         write-early 0 (recordOf t (w ++ u)) p g
-        (assigned n (P + length s + length (writeInteger integerBytes t) + length w) u (q .names)) (assign n u) hi rest q
-        (record-written o (q .names) (assigned n (P + length s + length (writeInteger integerBytes t) + length w) u (q .names)) P t (pred (length s + length (writeInteger integerBytes t ++ (w ++ u)))) (w ++ u)
-        (live (entryOf P (P + length s) (assignment n (P + length s + length (writeInteger integerBytes t) + length w) u) (row-of (q .names) t typeName (b .names) .row) (P + length s + length (writeInteger integerBytes t)) (w ++ u)))
+        (assigned n (P + length s + length (writeInteger numberBytes t) + length w) u (q .names)) (assign n u) hi rest q
+        (record-written o (q .names) (assigned n (P + length s + length (writeInteger numberBytes t) + length w) u (q .names)) P t (pred (length s + length (writeInteger numberBytes t ++ (w ++ u)))) (w ++ u)
+        (live (entryOf P (P + length s) (assignment n (P + length s + length (writeInteger numberBytes t) + length w) u) (row-of (q .names) t typeName (b .names) .row) (P + length s + length (writeInteger numberBytes t)) (w ++ u)))
         (q .ends) (b .number) (rw length-append (omega arith))
         (assign-judged (q .names) P t n s u (row-of (q .names) t typeName (b .names)) (b .number) nn (a .uriGood) r))
         (record-some t (w ++ u) (b .number .1))
