@@ -24,17 +24,17 @@ extern "C" {
 #endif
 
 /* ---- limits */
-#define LOGBOOK_HEADER_LENGTH 109u        /* bytes of a header, and of a logbook that has been started */
-#define LOGBOOK_UUID_LENGTH 16u           /* bytes of a UUID, as they are (not its text) */
-#define LOGBOOK_FREE_LENGTH 60u           /* bytes of a header's free part */
-#define LOGBOOK_USED_LIMIT 16777216u      /* the greatest used length */
-#define LOGBOOK_NUMBER_LIMIT 268435455u   /* the greatest type number */
-#define LOGBOOK_DATA_LIMIT 65535u         /* the most data bytes of an entry that is appended */
-#define LOGBOOK_URI_LIMIT 255u            /* the most bytes of a URI */
-#define LOGBOOK_ROWS 32u                  /* type numbers held at once */
-#define LOGBOOK_FILE_LIMIT 65536u         /* the longest file that is listed */
-#define LOGBOOK_LINE_LIMIT 320u           /* room that a listing asks for each line */
-#define LOGBOOK_SHOT_LENGTH 24u           /* bytes of a shot's data */
+#define LOGBOOK_HEADER_LENGTH 109u                         /* bytes of a header, and of a logbook that has been started */
+#define LOGBOOK_UUID_LENGTH 16u                            /* bytes of a UUID, as they are (not its text) */
+#define LOGBOOK_FREE_LENGTH 60u                            /* bytes of a header's free part */
+#define LOGBOOK_USED_LIMIT 16777216u                       /* the greatest used length */
+#define LOGBOOK_NUMBER_LIMIT UINT64_C(9223372036854775807) /* the greatest type number: nine bytes as written */
+#define LOGBOOK_DATA_LIMIT 65535u                          /* the most data bytes of an entry that is appended */
+#define LOGBOOK_URI_LIMIT 255u                             /* the most bytes of a URI */
+#define LOGBOOK_ROWS 32u                                   /* type numbers held at once */
+#define LOGBOOK_FILE_LIMIT 65536u                          /* the longest file that is listed */
+#define LOGBOOK_LINE_LIMIT 320u                            /* room that a listing asks for each line */
+#define LOGBOOK_SHOT_LENGTH 24u                            /* bytes of a shot's data */
 
 /* ---- limits of a shift: the greatest sizes, so -LOGBOOK_MOTION_LIMIT is allowed too. They have a sign, as what they bound. */
 #define LOGBOOK_COORDINATE_LIMIT 100000000000 /* of a shot's coordinate, in tenths of a millimetre */
@@ -61,7 +61,7 @@ enum {
     LOGBOOK_NO_ROOM = 12,        /* the records don't fit the buffer or the limit; the used length (start: 0) */
     LOGBOOK_NOT_FITTING = 13,    /* the reading (or the row) that was handed in doesn't fit */
     LOGBOOK_EMPTY_LEAD = 14,     /* a size or a type begins with the byte 80; that byte */
-    LOGBOOK_TOO_LONG = 15,       /* a size or a type isn't over at the last byte that it may have, its fourth; that byte */
+    LOGBOOK_TOO_LONG = 15,       /* a size isn't over at its fourth byte, or a type at its ninth, the last it may have; that byte */
     LOGBOOK_PAST_SIZE = 16,      /* a type isn't over within its record's size; the record's last byte */
     LOGBOOK_NOT_EPOCH = 24,      /* the URI isn't urn:ep: and four digits, or those, a point and two digits */
     LOGBOOK_NOT_SHOT = 25,       /* the data isn't 24 bytes */
@@ -89,7 +89,7 @@ typedef struct logbook_appended {
 
 logbook_appended logbook_append(uint8_t *buf, size_t len, size_t used, const uint8_t *uri, size_t uri_len, const uint8_t *data,
                                 size_t data_len);
-logbook_appended logbook_assign(uint8_t *buf, size_t len, size_t used, uint32_t number, const uint8_t *uri, size_t uri_len);
+logbook_appended logbook_assign(uint8_t *buf, size_t len, size_t used, uint64_t number, const uint8_t *uri, size_t uri_len);
 
 /* ---- erase the live entry that starts at a place: one byte is stored, at the place answered. */
 typedef struct logbook_erased {
@@ -118,14 +118,15 @@ typedef struct logbook_reading {
     size_t position; /* a place */
     size_t count;    /* live entries so far */
     size_t held;
-    uint32_t numbers[LOGBOOK_ROWS];
+    uint64_t numbers[LOGBOOK_ROWS];
     uint32_t places[LOGBOOK_ROWS];
     uint32_t lengths[LOGBOOK_ROWS];
 } logbook_reading;
 
 /* A row of the register: a type number and where its URI stands. */
 typedef struct logbook_row {
-    uint32_t number, place, length;
+    uint64_t number;
+    uint32_t place, length;
 } logbook_row;
 
 enum { /* what an item is */
@@ -147,7 +148,7 @@ typedef struct logbook_item {
     size_t data_place;  /* of a live entry: behind the type; of a deleted record: its body; else 0 */
     size_t data_length; /* up to the record's end; else 0 */
     logbook_row row;    /* of a live entry: its type number, and where its URI stands (logbook_uri); else zero */
-    uint32_t assigned;  /* of an assignment: the number that it assigns or removes; else 0 */
+    uint64_t assigned;  /* of an assignment: the number that it assigns or removes; else 0 */
     size_t assigned_place; /* of an assignment: where that number's URI stands, up to the record's end; else 0 */
 } logbook_item;
 

@@ -44,18 +44,18 @@ SIZE(logbook_wiped, 3 * WORD);
 AT(logbook_wiped, refusal, 0);
 AT(logbook_wiped, place, WORD);
 AT(logbook_wiped, stores, 2 * WORD);
-SIZE(logbook_reading, 3 * WORD + 384);
+SIZE(logbook_reading, 3 * WORD + 512);
 AT(logbook_reading, position, 0);
 AT(logbook_reading, count, WORD);
 AT(logbook_reading, held, 2 * WORD);
 AT(logbook_reading, numbers, 3 * WORD);
-AT(logbook_reading, places, 3 * WORD + 128);
-AT(logbook_reading, lengths, 3 * WORD + 256);
-SIZE(logbook_row, 12);
+AT(logbook_reading, places, 3 * WORD + 256);
+AT(logbook_reading, lengths, 3 * WORD + 384);
+SIZE(logbook_row, 16);
 AT(logbook_row, number, 0);
-AT(logbook_row, place, 4);
-AT(logbook_row, length, 8);
-SIZE(logbook_item, 8 * WORD + 16);
+AT(logbook_row, place, 8);
+AT(logbook_row, length, 12);
+SIZE(logbook_item, 8 * WORD + 24);
 AT(logbook_item, kind, 0);
 AT(logbook_item, refusal, WORD);
 AT(logbook_item, place, 2 * WORD);
@@ -64,8 +64,8 @@ AT(logbook_item, type_place, 4 * WORD);
 AT(logbook_item, data_place, 5 * WORD);
 AT(logbook_item, data_length, 6 * WORD);
 AT(logbook_item, row, 7 * WORD);
-AT(logbook_item, assigned, 7 * WORD + 12);
-AT(logbook_item, assigned_place, 7 * WORD + 16);
+AT(logbook_item, assigned, 7 * WORD + 16);
+AT(logbook_item, assigned_place, 7 * WORD + 24);
 SIZE(logbook_step_result, sizeof(logbook_item) + sizeof(logbook_reading));
 AT(logbook_step_result, item, 0);
 AT(logbook_step_result, reading, sizeof(logbook_item));
@@ -239,6 +239,8 @@ static void refusals(uint8_t *buf) {
     CHECK(logbook_append(buf, MORNING, MORNING, TEXT("urn:ep:2017"), TEXT("")).used == MORNING);
     CHECK(REFUSED(logbook_assign(buf, ROOM, MORNING, 0, TEXT("a:")), LOGBOOK_BAD_REQUEST, 0));
     CHECK(REFUSED(logbook_assign(buf, ROOM, MORNING, LOGBOOK_NUMBER_LIMIT + 1, TEXT("a:")), LOGBOOK_BAD_REQUEST, 0));
+    CHECK(REFUSED(logbook_assign(buf, ROOM, MORNING, LOGBOOK_NUMBER_LIMIT + 1, NULL, 0), LOGBOOK_BAD_REQUEST, 0));
+    CHECK(REFUSED(logbook_assign(buf, ROOM, MORNING, UINT64_MAX, TEXT("a:")), LOGBOOK_BAD_REQUEST, 0));
     CHECK(REFUSED(logbook_assign(buf, ROOM, MORNING, 2, TEXT(LOGBOOK_IMPLIED_NAMES " ")), LOGBOOK_BAD_REQUEST, 0));
     CHECK(REFUSED(logbook_erase(buf, ROOM, MORNING, 124), LOGBOOK_NOTHING_THERE, 124));
     CHECK(REFUSED(logbook_erase(buf, ROOM, MORNING, 127), LOGBOOK_FIXED, 127));
@@ -259,11 +261,16 @@ static void faults(void) {
         {"\x80", 1, LOGBOOK_EMPTY_LEAD, 109},
         {"\x02\x80\x02", 3, LOGBOOK_EMPTY_LEAD, 110},
         {"\xFF\xFF\xFF\xFF", 4, LOGBOOK_TOO_LONG, 112},
-        {"\x04\xFF\xFF\xFF\xFF", 5, LOGBOOK_TOO_LONG, 113},
+        {"\x04\xFF\xFF\xFF\xFF", 5, LOGBOOK_PAST_SIZE, 113},
+        {"\x08\xFF\xFF\xFF\xFF\xFF\xFF\xFF\xFF", 9, LOGBOOK_PAST_SIZE, 117},
+        {"\x09\xFF\xFF\xFF\xFF\xFF\xFF\xFF\xFF\xFF", 10, LOGBOOK_TOO_LONG, 118},
+        {"\x0A\xFF\xFF\xFF\xFF\xFF\xFF\xFF\xFF\xFF\x01", 11, LOGBOOK_TOO_LONG, 118},
         {"\x01\x81", 2, LOGBOOK_PAST_SIZE, 110},
         {"\x03\xFF\xFF\xFF", 4, LOGBOOK_PAST_SIZE, 112},
         {"\x02\x01\x80", 3, LOGBOOK_BAD_ASSIGNMENT, 109},
+        {"\x0A\x01\xFF\xFF\xFF\xFF\xFF\xFF\xFF\xFF\xFF", 11, LOGBOOK_BAD_ASSIGNMENT, 109},
         {"\x02\x07x", 3, LOGBOOK_NOT_HELD, 109},
+        {"\x05\xFF\xFF\xFF\xFF\x01", 6, LOGBOOK_NOT_HELD, 109},
         {"\x01\x6F", 2, LOGBOOK_NOT_HEADER, 109},
     };
     uint8_t buf[ROOM];
@@ -290,7 +297,7 @@ static void faults(void) {
 static void register_refusals(void) {
     uint8_t buf[2 * ROOM];
     size_t used = start(buf, sizeof buf).used;
-    for (uint32_t number = 2; number < 32; number++) {
+    for (uint64_t number = 2; number < 32; number++) {
         logbook_appended done = logbook_assign(buf, sizeof buf, used, number, TEXT("a:"));
         CHECK(REFUSED(done, LOGBOOK_DONE, used));
         used = done.used;
@@ -302,6 +309,37 @@ static void register_refusals(void) {
     CHECK(REFUSED(logbook_assign(buf, sizeof buf, done.used, 2, TEXT("c:")), LOGBOOK_NO_TYPE_NUMBER, 0));
     done = logbook_append(buf, sizeof buf, done.used, TEXT("b:"), TEXT(""));
     CHECK(done.refusal == LOGBOOK_DONE && buf[done.place] == 1 && buf[done.place + 1] == 1);
+}
+
+/* A type number of nine bytes: assigned, appended under, read, erased, removed. */
+static void great_numbers(void) {
+    static const uint8_t nine[] = {0xFF, 0xFF, 0xFF, 0xFF, 0xFF, 0xFF, 0xFF, 0xFF, 0x7F};
+    uint8_t buf[ROOM];
+    size_t used = start(buf, ROOM).used;
+    logbook_appended done = logbook_assign(buf, ROOM, used, LOGBOOK_NUMBER_LIMIT, TEXT("a:"));
+    CHECK(REFUSED(done, LOGBOOK_DONE, 109) && done.used == 122 && memcmp(buf + 111, nine, sizeof nine) == 0);
+    done = logbook_append(buf, ROOM, done.used, TEXT("a:"), TEXT("P7"));
+    CHECK(REFUSED(done, LOGBOOK_DONE, 122) && done.used == 134 && memcmp(buf + 123, nine, sizeof nine) == 0);
+    used = done.used;
+    logbook_step_result result = logbook_step(buf, ROOM, used, logbook_fresh());
+    result = logbook_step(buf, ROOM, used, result.reading);
+    CHECK(result.item.kind == LOGBOOK_ASSIGNMENT && result.item.assigned == LOGBOOK_NUMBER_LIMIT && result.item.assigned_place == 120);
+    CHECK(result.reading.held == 3 && result.reading.numbers[2] == LOGBOOK_NUMBER_LIMIT && result.reading.places[2] == 120);
+    logbook_reading other = result.reading;
+    other.numbers[2]--;
+    CHECK(REFUSED(logbook_step(buf, ROOM, used, other).item, LOGBOOK_NOT_HELD, 122));
+    other.numbers[2] = LOGBOOK_NUMBER_LIMIT + 1;
+    CHECK(REFUSED(logbook_step(buf, ROOM, used, other).item, LOGBOOK_NOT_FITTING, 0));
+    result = logbook_step(buf, ROOM, used, result.reading);
+    CHECK(result.item.kind == LOGBOOK_ENTRY && result.item.row.number == LOGBOOK_NUMBER_LIMIT && result.item.data_place == 132);
+    logbook_uri_answer answer = logbook_uri(ROOM, used, result.item.row);
+    CHECK(answer.refusal == LOGBOOK_DONE && answer.place == 120 && answer.length == 2);
+    result.item.row.number++;
+    CHECK(logbook_uri(ROOM, used, result.item.row).refusal == LOGBOOK_NOT_FITTING);
+    logbook_erased erased = logbook_erase(buf, ROOM, used, 122);
+    CHECK(REFUSED(erased, LOGBOOK_DONE, 123) && buf[123] == 0 && buf[124] == 0xFF);
+    done = logbook_assign(buf, ROOM, used, LOGBOOK_NUMBER_LIMIT, NULL, 0);
+    CHECK(REFUSED(done, LOGBOOK_DONE, 134) && done.used == 145 && memcmp(buf + 136, nine, sizeof nine) == 0);
 }
 
 /* Readings and rows that don't fit. */
@@ -455,6 +493,7 @@ int main(void) {
     refusals(buf);
     faults();
     register_refusals();
+    great_numbers();
     shifts();
     shift_refusals();
     null_pointers(buf);

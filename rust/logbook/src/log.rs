@@ -109,19 +109,20 @@ impl<'a> Logbook<'a> {
     ///
     /// # Errors
     ///
-    /// 10 for a number that is 0 or over 268,435,455, or a URI that isn't allowed; the refusals of
-    /// reading the logbook to its end; 11, 7 and 12.
+    /// 10 for a number that is 0 or over 9,223,372,036,854,775,807, or a URI that isn't allowed; the
+    /// refusals of reading the logbook to its end; 11, 7 and 12.
     ///
     /// ```
-    /// use logbook::{Logbook, Place};
+    /// use logbook::{Logbook, Place, Refusal};
     ///
     /// let mut buffer = [0; 200];
     /// let mut log = Logbook::start(&mut buffer, &[7; 16], &[0; 60])?;
     /// assert_eq!(log.assign(2, "urn:ep:2010")?, Place(109));
     /// assert_eq!(log.append("urn:ep:2010", "P7")?, Place(123)); // under number 2
-    /// # Ok::<(), logbook::Refusal>(())
+    /// assert_eq!(log.assign(1 << 63, "urn:ep:2017"), Err(Refusal::BadRequest));
+    /// # Ok::<(), Refusal>(())
     /// ```
-    pub fn assign(&mut self, number: u32, uri: impl AsRef<[u8]>) -> Result<Place, Refusal> {
+    pub fn assign(&mut self, number: u64, uri: impl AsRef<[u8]>) -> Result<Place, Refusal> {
         let answer = raw::assign(self.buf, self.used, number, uri.as_ref());
         self.appended(answer)
     }
@@ -142,7 +143,7 @@ impl<'a> Logbook<'a> {
     /// assert_eq!(log.append("urn:ep:2010", "P7"), Err(Refusal::NoTypeNumber));
     /// # Ok::<(), Refusal>(())
     /// ```
-    pub fn remove(&mut self, number: u32) -> Result<Place, Refusal> {
+    pub fn remove(&mut self, number: u64) -> Result<Place, Refusal> {
         self.assign(number, [])
     }
 

@@ -13,8 +13,8 @@ pub const UUID_LENGTH: usize = 16;
 pub const FREE_LENGTH: usize = 60;
 /// The greatest used length.
 pub const USED_LIMIT: usize = 16_777_216;
-/// The greatest type number.
-pub const NUMBER_LIMIT: u32 = 268_435_455;
+/// The greatest type number: nine bytes as written.
+pub const NUMBER_LIMIT: u64 = 9_223_372_036_854_775_807;
 /// The most data bytes of an entry that is appended.
 pub const DATA_LIMIT: usize = 65_535;
 /// The most bytes of a URI.
@@ -109,7 +109,7 @@ pub struct Reading {
     /// Rows in use; the others are zero.
     pub held: usize,
     /// The rows' type numbers, rising.
-    pub numbers: [u32; ROWS],
+    pub numbers: [u64; ROWS],
     /// Where the rows' URIs start; 0 in a row that a header implies.
     pub places: [u32; ROWS],
     /// The lengths of the rows' URIs; 0 in a row that a header implies.
@@ -121,7 +121,7 @@ pub struct Reading {
 #[derive(Clone, Copy, PartialEq, Eq, Debug)]
 pub struct Row {
     /// The type number.
-    pub number: u32,
+    pub number: u64,
     /// Where the URI starts; 0 in a row that a header implies.
     pub place: u32,
     /// The URI's length; 0 in a row that a header implies.
@@ -149,7 +149,7 @@ pub struct Item {
     /// Of a live entry: its type number and where its URI stands; see [`uri`].
     pub row: Row,
     /// Of an assignment: the number that it assigns or removes.
-    pub assigned: u32,
+    pub assigned: u64,
     /// Of an assignment: where that number's URI stands, up to the record's end.
     pub assigned_place: usize,
 }
@@ -271,7 +271,7 @@ mod c {
             buf: *mut u8,
             len: usize,
             used: usize,
-            number: u32,
+            number: u64,
             uri: *const u8,
             uri_len: usize,
         ) -> Appended;
@@ -339,7 +339,7 @@ pub fn append(buf: &mut [u8], used: usize, uri: &[u8], data: &[u8]) -> Appended 
 
 /// Assigns a type number; an empty URI removes it.
 #[inline]
-pub fn assign(buf: &mut [u8], used: usize, number: u32, uri: &[u8]) -> Appended {
+pub fn assign(buf: &mut [u8], used: usize, number: u64, uri: &[u8]) -> Appended {
     // SAFETY: each pointer is a slice's, given with that slice's length; `buf` is borrowed alone.
     unsafe {
         c::logbook_assign(
@@ -438,18 +438,18 @@ mod layout {
     const _: () = assert!(size_of::<Wiped>() == 3 * WORD);
     const _: () = assert!(offset_of!(Wiped, stores) == 2 * WORD);
 
-    const _: () = assert!(size_of::<Reading>() == 3 * WORD + 3 * 4 * ROWS);
+    const _: () = assert!(size_of::<Reading>() == 3 * WORD + 16 * ROWS);
     const _: () = assert!(offset_of!(Reading, count) == WORD);
     const _: () = assert!(offset_of!(Reading, held) == 2 * WORD);
     const _: () = assert!(offset_of!(Reading, numbers) == 3 * WORD);
-    const _: () = assert!(offset_of!(Reading, places) == 3 * WORD + 4 * ROWS);
-    const _: () = assert!(offset_of!(Reading, lengths) == 3 * WORD + 8 * ROWS);
+    const _: () = assert!(offset_of!(Reading, places) == 3 * WORD + 8 * ROWS);
+    const _: () = assert!(offset_of!(Reading, lengths) == 3 * WORD + 12 * ROWS);
 
-    const _: () = assert!(size_of::<Row>() == 12);
-    const _: () = assert!(offset_of!(Row, place) == 4);
-    const _: () = assert!(offset_of!(Row, length) == 8);
+    const _: () = assert!(size_of::<Row>() == 16);
+    const _: () = assert!(offset_of!(Row, place) == 8);
+    const _: () = assert!(offset_of!(Row, length) == 12);
 
-    const _: () = assert!(size_of::<Item>() == 8 * WORD + 16);
+    const _: () = assert!(size_of::<Item>() == 8 * WORD + 24);
     const _: () = assert!(offset_of!(Item, kind) == 0);
     const _: () = assert!(offset_of!(Item, refusal) == WORD);
     const _: () = assert!(offset_of!(Item, place) == 2 * WORD);
@@ -458,8 +458,8 @@ mod layout {
     const _: () = assert!(offset_of!(Item, data_place) == 5 * WORD);
     const _: () = assert!(offset_of!(Item, data_length) == 6 * WORD);
     const _: () = assert!(offset_of!(Item, row) == 7 * WORD);
-    const _: () = assert!(offset_of!(Item, assigned) == 7 * WORD + 12);
-    const _: () = assert!(offset_of!(Item, assigned_place) == 7 * WORD + 16);
+    const _: () = assert!(offset_of!(Item, assigned) == 7 * WORD + 16);
+    const _: () = assert!(offset_of!(Item, assigned_place) == 7 * WORD + 24);
 
     const _: () = assert!(offset_of!(Step, reading) == size_of::<Item>());
     const _: () = assert!(size_of::<Step>() == size_of::<Item>() + size_of::<Reading>());

@@ -35,7 +35,7 @@ pub struct Entry<'b> {
     /// Where the type number stands, behind the size.
     pub type_place: Place,
     /// The type number.
-    pub type_number: u32,
+    pub type_number: u64,
     /// The URI that the type number has at this record.
     pub uri: &'b [u8],
     /// Where the data starts, behind the type number.
@@ -56,7 +56,7 @@ pub enum Kind<'b> {
     /// It assigns a type number for the records behind it.
     Assignment {
         /// The number that is assigned, or removed.
-        number: u32,
+        number: u64,
         /// Its URI from here on; empty where the number is removed.
         uri: &'b [u8],
     },
@@ -117,7 +117,7 @@ impl Reading {
         &self,
         buf: &'b [u8],
         used: usize,
-    ) -> impl Iterator<Item = (u32, &'b [u8])> + 'b {
+    ) -> impl Iterator<Item = (u64, &'b [u8])> + 'b {
         let raw::Reading {
             held,
             numbers,

@@ -76,7 +76,7 @@ pub enum Refusal {
         /// Where that byte is.
         place: Place,
     },
-    /// 15: a size or a type isn't over at the last byte that it may have, its fourth.
+    /// 15: a size isn't over at its fourth byte, or a type at its ninth, the last that it may have.
     TooLong {
         /// Where that byte is.
         place: Place,
@@ -208,7 +208,8 @@ impl Refusal {
             }
             Refusal::BadRequest => {
                 "the request asks for data over 65,535 bytes, a URI that isn't allowed, \
-                 a number that is 0 or over 268,435,455, or a UUID or free part of another length"
+                 a number that is 0 or over 9,223,372,036,854,775,807, \
+                 or a UUID or free part of another length"
             }
             Refusal::NoTypeNumber => {
                 "an assignment is needed, and no type number holds urn:lozizol:type"
@@ -222,7 +223,7 @@ impl Refusal {
                 "the byte there is 80 and begins a size or a type, and none begins with 80"
             }
             Refusal::TooLong { .. } => {
-                "the byte there is the fourth of a size or a type, the last one allowed, \
+                "the byte there is the fourth of a size or the ninth of a type, the last one allowed, \
                  and it says that another follows"
             }
             Refusal::PastSize { .. } => {

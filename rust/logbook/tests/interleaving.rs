@@ -3,17 +3,18 @@
 mod common;
 
 use common::morning;
-use logbook::{Item, Logbook, Place, Reading, Refusal};
+use logbook::{raw, Item, Logbook, Place, Reading, Refusal};
 
 #[derive(Clone, Debug)]
 enum Call {
     Append(&'static str, Vec<u8>),
-    Assign(u32, &'static str),
+    Assign(u64, &'static str),
     Erase(Place),
     Wipe(Place, usize),
     Step,
 }
 
+const NUMBERS: [u64; 6] = [0, 1, 2, 3, 1 << 32 | 2, raw::NUMBER_LIMIT];
 const URIS: [&str; 5] = ["", "urn:ep:2010", "urn:ep:2017", "a:", "urn:lozizol:type"];
 
 /// A series' state: the logbook, one reading of it, and whether that has come to its end.
@@ -84,7 +85,7 @@ impl Numbers {
         let place = Place(self.below(used + 4));
         match self.below(9) {
             0 => Call::Append(URIS[self.below(5)], vec![7; self.below(9)]),
-            1 => Call::Assign(self.below(4) as u32, URIS[self.below(5)]),
+            1 => Call::Assign(NUMBERS[self.below(6)], URIS[self.below(5)]),
             2..=3 => Call::Erase(place),
             4 => Call::Wipe(place, self.below(4)),
             _ => Call::Step,

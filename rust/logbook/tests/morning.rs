@@ -162,7 +162,7 @@ fn a_removal_and_the_numbers_held() -> Result<(), Refusal> {
     }
     assert_eq!((reading.position(), reading.count()), (Place(145), 5));
     let held = reading.held(log.bytes(), log.used()).collect::<Vec<_>>();
-    let expected: [(u32, &[u8]); 3] = [
+    let expected: [(u64, &[u8]); 3] = [
         (1, b"urn:lozizol:type"),
         (2, b"urn:ep:2017"),
         (111, b"urn:lozizol:header"),
@@ -183,6 +183,37 @@ fn a_removal_and_the_numbers_held() -> Result<(), Refusal> {
     );
     assert_eq!(removal.number, EntryNumber(6));
     assert_eq!(reading.held(log.bytes(), log.used()).count(), 2);
+    Ok(())
+}
+
+/// 02 [5], "Bigger type numbers": what a recorder makes from its station's serial.
+#[test]
+fn a_number_of_nine_bytes() -> Result<(), Refusal> {
+    let (serial, uri) = (9_223_372_036_854_775_807, &b"urn:station:7"[..]);
+    let mut buffer = [0; 200];
+    let mut log = morning(&mut buffer)?;
+    assert_eq!(log.assign(serial, uri), Ok(Place(145)));
+    assert_eq!(log.append(uri, "P9"), Ok(Place(169)));
+    assert_eq!(
+        &log.bytes()[170..],
+        b"\xFF\xFF\xFF\xFF\xFF\xFF\xFF\xFF\x7FP9"
+    );
+
+    let entries = log.entries().collect::<Result<Vec<_>, Refusal>>()?;
+    let number = serial;
+    assert_eq!(entries[5].kind, Kind::Assignment { number, uri });
+    assert_eq!((entries[6].type_number, entries[6].uri), (serial, uri));
+    assert_eq!(
+        (entries[6].data_place, entries[6].data),
+        (Place(179), &b"P9"[..])
+    );
+    let mut reading = Reading::fresh();
+    while let Some((_, next)) = log.step(&reading)? {
+        reading = next;
+    }
+    let held = reading.held(log.bytes(), log.used());
+    assert_eq!(held.last(), Some((serial, uri)));
+    assert_eq!(log.remove(serial), Ok(Place(181)));
     Ok(())
 }
 

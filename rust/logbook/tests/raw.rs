@@ -7,7 +7,7 @@ use logbook::raw::{
     self, Appended, Erased, Item, Motion, Point, Reading, Row, Shifted, Started, Triple, UriAnswer,
     Wiped, IMPLIED_NAMES,
 };
-use logbook::Refusal;
+use logbook::{Logbook, Refusal};
 
 const NO_ROW: Row = Row {
     number: 0,
@@ -31,7 +31,7 @@ fn item(kind: usize, refusal: usize, place: usize) -> Item {
     }
 }
 
-fn row(number: u32, place: u32, length: u32) -> Row {
+fn row(number: u64, place: u32, length: u32) -> Row {
     Row {
         number,
         place,
@@ -142,6 +142,70 @@ fn the_items_of_the_morning() -> Result<(), Refusal> {
 }
 
 #[test]
+fn numbers_of_nine_bytes() {
+    let most = raw::NUMBER_LIMIT;
+    let mut buf = [0; 200];
+    raw::start(&mut buf, &UUID, &FREE);
+    let done = raw::assign(&mut buf, 109, most, b"a:");
+    assert_eq!((done.refusal, done.place, done.used), (0, 109, 122));
+    let done = raw::append(&mut buf, 122, b"a:", b"P7");
+    assert_eq!((done.refusal, done.place, done.used), (0, 122, 134));
+    let header = raw::step(&buf, 134, raw::fresh());
+    let assignment = raw::step(&buf, 134, header.reading);
+    let expected = Item {
+        number: 2,
+        type_place: 110,
+        data_place: 111,
+        data_length: 11,
+        row: row(1, 0, 0),
+        assigned: most,
+        assigned_place: 120,
+        ..item(raw::ASSIGNMENT, 0, 109)
+    };
+    assert_eq!(assignment.item, expected);
+    assert_eq!(assignment.reading.numbers[..4], [1, 111, most, 0]);
+    assert_eq!(assignment.reading.places[..4], [0, 0, 120, 0]);
+    let entry = raw::step(&buf, 134, assignment.reading);
+    let expected = Item {
+        number: 3,
+        type_place: 123,
+        data_place: 132,
+        data_length: 2,
+        row: row(most, 120, 2),
+        ..item(raw::ENTRY, 0, 122)
+    };
+    assert_eq!(entry.item, expected);
+}
+
+#[test]
+fn rows_of_nine_bytes() -> Result<(), Refusal> {
+    let mut buffer = [0; 200];
+    let mut log = Logbook::start(&mut buffer, &UUID, &FREE)?;
+    log.append("a:", "")?;
+    log.assign(raw::NUMBER_LIMIT, "b:")?;
+    let entry = log.append("b:", "")?.0;
+    let mut reading = raw::fresh();
+    while reading.position < entry {
+        reading = raw::step(log.bytes(), log.used(), reading).reading;
+    }
+    assert_eq!(reading.numbers[..5], [1, 2, 111, raw::NUMBER_LIMIT, 0]);
+    let step = |number| {
+        let mut other = reading;
+        other.numbers[3] = number;
+        raw::step(log.bytes(), log.used(), other).item
+    };
+    assert_eq!(step(raw::NUMBER_LIMIT).kind, raw::ENTRY);
+    // The lowest 32 bits of the second are those of the entry's type.
+    for number in [112, u32::MAX.into(), raw::NUMBER_LIMIT - 1] {
+        assert_eq!(step(number), item(raw::REFUSED, 6, entry));
+    }
+    for number in [0, 111, raw::NUMBER_LIMIT + 1, u64::MAX] {
+        assert_eq!(step(number), item(raw::REFUSED, 13, 0));
+    }
+    Ok(())
+}
+
+#[test]
 fn readings_that_do_not_fit() -> Result<(), Refusal> {
     let mut buffer = [0; 200];
     let log = morning(&mut buffer)?;
@@ -164,7 +228,8 @@ fn readings_that_do_not_fit() -> Result<(), Refusal> {
         changed(|reading| reading.lengths[0] = 256),
         changed(|reading| (reading.places[0], reading.lengths[0]) = (105, 5)),
         changed(|reading| (reading.places[0], reading.lengths[0]) = (u32::MAX, 2)),
-        changed(|reading| reading.numbers[1] = raw::NUMBER_LIMIT + 1),
+        changed(|reading| reading.numbers[1] = 1 << 32 | 111),
+        changed(|reading| reading.numbers[31] = 1 << 32),
         changed(|reading| reading.lengths[31] = 1),
     ];
     for reading in readings {
@@ -196,6 +261,9 @@ fn uris_of_rows() {
     assert_eq!(&IMPLIED_NAMES[16..], b"urn:lozizol:header");
     assert_eq!(uri(row(2, 112, 11)), answer(0, 0, 112, 11));
     assert_eq!(uri(row(2, 134, 11)), answer(0, 0, 134, 11));
+    for number in [1 << 32, raw::NUMBER_LIMIT] {
+        assert_eq!(uri(row(number, 112, 11)), answer(0, 0, 112, 11));
+    }
     for bad in [
         row(2, 135, 11),
         row(2, u32::MAX, 11),
@@ -205,6 +273,9 @@ fn uris_of_rows() {
         row(1, 1, 0),
         row(0, 112, 11),
         row(raw::NUMBER_LIMIT + 1, 112, 11),
+        row(u64::MAX, 112, 11),
+        row(1 << 32, 112, 0),
+        row(1 << 32 | 1, 0, 0),
     ] {
         assert_eq!(uri(bad), answer(13, 0, 0, 0));
     }

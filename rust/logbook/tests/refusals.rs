@@ -69,20 +69,18 @@ fn a_first_byte_80() {
 }
 
 #[test]
-fn a_fifth_byte_asked_for() {
-    let reason = "the byte there is the fourth of a size or a type, the last one allowed, \
-                  and it says that another follows";
+fn a_byte_too_many_asked_for() {
+    let reason = "the byte there is the fourth of a size or the ninth of a type, \
+                  the last one allowed, and it says that another follows";
     says(behind_header(b"\xFF\xFF\xFF\xFF"), 15, Some(112), reason);
-    // The type isn't over within its size either.
-    says(
-        behind_header(b"\x04\xFF\xFF\xFF\xFF"),
-        15,
-        Some(113),
-        reason,
-    );
-    let mut long = b"\x81\x00\x81\x80\x80\x80".to_vec();
+    // In the first of these the type isn't over within its size either.
+    for (size, last) in [(9, 0xFF), (10, 0xFF), (10, 0x01)] {
+        let rest = [&[size][..], &[0xFF; 9], &[last]].concat();
+        says(behind_header(&rest), 15, Some(118), reason);
+    }
+    let mut long = [&[0x81, 0x00, 0x81][..], &[0x80; 8]].concat();
     long.resize(2 + 128, 0);
-    says(behind_header(&long), 15, Some(114), reason);
+    says(behind_header(&long), 15, Some(119), reason);
 }
 
 #[test]
@@ -90,25 +88,30 @@ fn a_type_past_its_size() {
     let reason = "the byte there is the last one of its record, \
                   and it says that the record's type goes on";
     says(behind_header(b"\0\x01\x81"), 16, Some(111), reason);
-    // The byte behind the record would be the type's fourth.
-    says(
-        behind_header(b"\x03\xFF\xFF\xFF\xFF"),
-        16,
-        Some(112),
-        reason,
-    );
+    // The byte behind the last of these records would be the type's ninth.
+    for size in 1..=8 {
+        let rest = [&[size][..], &[0xFF; 9][..usize::from(size) + 1]].concat();
+        says(
+            behind_header(&rest),
+            16,
+            Some(109 + usize::from(size)),
+            reason,
+        );
+    }
 }
 
 #[test]
 fn bad_assignment() {
     let reason = "the assignment that starts there has no number, a broken one or 0, \
                   or a URI that isn't allowed";
-    let faulty: [&[u8]; 6] = [
+    let faulty: [&[u8]; 8] = [
         b"\x01\x01",
         b"\x02\x01\x00",
         b"\x04\x01\x02:a",
         // A broken number is none of 14, 15 and 16.
         b"\x02\x01\x80",
+        b"\x0A\x01\xFF\xFF\xFF\xFF\xFF\xFF\xFF\xFF\xFF",
+        b"\x0D\x01\x81\x80\x80\x80\x80\x80\x80\x80\x80\x00a:",
         b"\x05\x01\xFF\xFF\xFF\xFF",
         b"\x02\x01\x81",
     ];
@@ -120,7 +123,16 @@ fn bad_assignment() {
 #[test]
 fn not_held() {
     let reason = "the record that starts there has a type number that isn't held";
-    says(behind_header(b"\x03\x02P7"), 6, Some(109), reason);
+    let others: [&[u8]; 4] = [
+        b"\x03\x02P7",
+        b"\x05\xFF\xFF\xFF\xFF\x01",
+        b"\x09\xFF\xFF\xFF\xFF\xFF\xFF\xFF\xFF\x7F",
+        // The lowest 32 bits are those of 1, which is held.
+        b"\x05\x90\x80\x80\x80\x01",
+    ];
+    for rest in others {
+        says(behind_header(rest), 6, Some(109), reason);
+    }
 }
 
 #[test]
@@ -185,18 +197,21 @@ fn bad_request() -> Result<(), Refusal> {
         log.append(&long_uri, "P7"),
         log.append("a:", vec![0; 65_536]),
         log.assign(0, "a:"),
-        log.assign(268_435_456, "a:"),
+        log.assign(9_223_372_036_854_775_808, "a:"),
+        log.assign(u64::MAX, "a:"),
         log.assign(2, "urn:lozizol:header"),
         log.remove(0),
-        log.remove(u32::MAX),
+        log.remove(9_223_372_036_854_775_808),
+        log.remove(u64::MAX),
     ];
     let reason = "the request asks for data over 65,535 bytes, a URI that isn't allowed, \
-                  a number that is 0 or over 268,435,455, or a UUID or free part of another length";
+                  a number that is 0 or over 9,223,372,036,854,775,807, \
+                  or a UUID or free part of another length";
     for answer in requests {
         says(answer.unwrap_err(), 10, None, reason);
     }
     log.append(&long_uri[..255], vec![0; 65_535])?;
-    log.assign(268_435_455, "urn:lozizol:type")?;
+    log.assign(9_223_372_036_854_775_807, "urn:lozizol:type")?;
     Ok(())
 }
 
