@@ -120,8 +120,8 @@ impl Arguments {
 }
 
 /// A type number. One that is too great for the library's argument stays too great.
-pub fn type_number(given: &[u8]) -> Result<u32, Trouble> {
-    Ok(digits(given, "NUMBER")?.parse().unwrap_or(u32::MAX))
+pub fn type_number(given: &[u8]) -> Result<u64, Trouble> {
+    Ok(digits(given, "NUMBER")?.parse().unwrap_or(u64::MAX))
 }
 
 /// A limit of stores. No record has more bytes than the greatest.

@@ -83,7 +83,7 @@ Writes `appended`, the entry's place and the used length, with a TAB between.
         usage: "assign FILE NUMBER URI",
         summary: "assigns a type number for the records behind",
         details: "\
-NUMBER is 1 to 268,435,455. An empty URI removes it.
+NUMBER is 1 to 9,223,372,036,854,775,807. An empty URI removes it.
 Writes `assigned`, the assignment's place and the used length, with a TAB between.
 ",
         is_change: true,
@@ -97,6 +97,7 @@ Writes `assigned`, the assignment's place and the used length, with a TAB betwee
         usage: "remove FILE NUMBER",
         summary: "removes a type number for the records behind",
         details: "\
+NUMBER is 1 to 9,223,372,036,854,775,807. It needn't be held.
 Writes `removed`, the removal's place and the used length, with a TAB between.
 ",
         is_change: true,

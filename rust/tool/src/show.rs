@@ -2,6 +2,7 @@
 
 use crate::trouble::Trouble;
 use logbook::{Entry, Item, Kind, Place, Refusal};
+use std::fmt::Display;
 use std::io::{self, Write};
 
 /// Bytes in a row.
@@ -74,14 +75,14 @@ impl Dump<'_> {
             entry.type_place,
             end - entry.type_place.0,
         )?;
-        let number = entry.type_number as usize;
+        let number = entry.type_number;
         self.integer("type", entry.type_place, entry.data_place, number)?;
         match entry.kind {
             Kind::Plain => self.part("data", entry.data_place, entry.data),
             Kind::Header => self.header(entry),
             Kind::Assignment { number, uri } => {
                 let uri_place = Place(end - uri.len());
-                self.integer("number", entry.data_place, uri_place, number as usize)?;
+                self.integer("number", entry.data_place, uri_place, number)?;
                 self.part("uri", uri_place, uri)
             }
         }
@@ -101,7 +102,13 @@ impl Dump<'_> {
     }
 
     /// A row for a written integer, up to `end`.
-    fn integer(&mut self, name: &str, place: Place, end: Place, value: usize) -> io::Result<()> {
+    fn integer(
+        &mut self,
+        name: &str,
+        place: Place,
+        end: Place,
+        value: impl Display,
+    ) -> io::Result<()> {
         let bytes = self.bytes.get(place.0..end.0).unwrap_or_default();
         self.row(name, place, bytes, &value.to_string())
     }

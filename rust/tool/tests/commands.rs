@@ -7,8 +7,8 @@ use std::io::Write;
 use std::process::Stdio;
 
 const REFUSAL_10: &str = "refusal 10: the request asks for data over 65,535 bytes, a URI that \
-                          isn't allowed, a number that is 0 or over 268,435,455, or a UUID or \
-                          free part of another length";
+                          isn't allowed, a number that is 0 or over \
+                          9,223,372,036,854,775,807, or a UUID or free part of another length";
 
 #[test]
 fn new() {
@@ -155,20 +155,46 @@ fn append_from_standard_input() {
 #[test]
 fn assign_and_remove() {
     let folder = Folder::with_morning("assign_and_remove");
-    let number = "268435455";
+    let number = "9223372036854775807";
     folder
         .run(&["assign", "morning.loz", number, "a:"])
-        .done("assigned\t145\t153\n");
+        .done("assigned\t145\t158\n");
+    folder
+        .run(&["append", "morning.loz", "a:"])
+        .done("appended\t158\t168\n");
     folder
         .run(&["remove", "morning.loz", number])
-        .done("removed\t153\t159\n");
+        .done("removed\t168\t179\n");
+    folder
+        .run(&["assign", "morning.loz", "4294967298", "a:"])
+        .done("assigned\t179\t188\n");
     folder
         .run(&["assign", "morning.loz", "1", ""])
-        .done("assigned\t159\t162\n");
+        .done("assigned\t188\t191\n");
     folder
         .run(&["append", "morning.loz", "b:"])
         .refused("refusal 11: an assignment is needed, and no type number holds urn:lozizol:type");
-    for number in ["0", "268435456", "4294967296", "99999999999999999999"] {
+    assert_eq!(
+        &folder.read("morning.loz")[145..],
+        b"\x0C\x01\xFF\xFF\xFF\xFF\xFF\xFF\xFF\xFF\x7Fa:\
+          \x09\xFF\xFF\xFF\xFF\xFF\xFF\xFF\xFF\x7F\
+          \x0A\x01\xFF\xFF\xFF\xFF\xFF\xFF\xFF\xFF\x7F\
+          \x08\x01\x90\x80\x80\x80\x02a:\x02\x01\x01"
+    );
+}
+
+#[test]
+fn numbers_out_of_bounds() {
+    let folder = Folder::with_morning("numbers_out_of_bounds");
+    let before = folder.read("morning.loz");
+    for number in [
+        "0",
+        "9223372036854775808",
+        "18446744073709551615",
+        // Cut to 64 bits, these two would be 0 and 2.
+        "18446744073709551616",
+        "018446744073709551618",
+    ] {
         folder
             .run(&["assign", "morning.loz", number, "a:"])
             .refused(REFUSAL_10);
@@ -176,10 +202,7 @@ fn assign_and_remove() {
             .run(&["remove", "morning.loz", number])
             .refused(REFUSAL_10);
     }
-    assert_eq!(
-        &folder.read("morning.loz")[145..],
-        b"\x07\x01\xFF\xFF\xFF\x7Fa:\x05\x01\xFF\xFF\xFF\x7F\x02\x01\x01"
-    );
+    assert_eq!(folder.read("morning.loz"), before);
 }
 
 #[test]

@@ -89,6 +89,28 @@ fn padding_deleted_records_and_removals() {
 }
 
 #[test]
+fn numbers_of_nine_bytes() {
+    let folder = Folder::with_morning("numbers_of_nine_bytes");
+    let nine = b"\xff\xff\xff\xff\xff\xff\xff\xff\x7f";
+    let rest = [b"\x0c\x01", &nine[..], b"a:\x0b", nine, b"P9"].concat();
+    let (status, shown, err) = shown_behind(&folder, &rest);
+    assert_eq!((status, &*err), (0, ""));
+    let expected = "\
+145: entry 6, urn:lozizol:type, assigns a: to 9223372036854775807
+       145  size    0c                                               12
+       146  type    01                                               1
+       147  number  ff ff ff ff ff ff ff ff 7f                       9223372036854775807
+       156  uri     61 3a                                            |a:|
+158: entry 7, a:
+       158  size    0b                                               11
+       159  type    ff ff ff ff ff ff ff ff 7f                       9223372036854775807
+       168  data    50 39                                            |P9|
+170: end
+";
+    assert_eq!(shown, expected);
+}
+
+#[test]
 fn refusals_point_at_their_byte() {
     let folder = Folder::with_morning("refusals_point_at_their_byte");
     let shown = shown_behind(&folder, b"\0\x80\x11");
@@ -100,16 +122,6 @@ fn refusals_point_at_their_byte() {
 ";
     let sentence = "logbook: refusal 14 at place 146: the byte there is 80 and begins a size or \
                     a type, and none begins with 80\n";
-    assert_eq!(shown, (1, expected.into(), sentence.into()));
-
-    let shown = shown_behind(&folder, b"\x04\xff\xff\xff\xffbehind");
-    let expected = "\
-145: refusal 15 at place 149
-       145          04 ff ff ff ff 62 65 68 69 6e 64                 |.....behind|
-                                ^^
-";
-    let sentence = "logbook: refusal 15 at place 149: the byte there is the fourth of a size or \
-                    a type, the last one allowed, and it says that another follows\n";
     assert_eq!(shown, (1, expected.into(), sentence.into()));
 
     let shown = shown_behind(&folder, b"\x02\x81\x82");
@@ -129,6 +141,31 @@ fn refusals_point_at_their_byte() {
                     ^^
 ";
     assert_eq!((status, &*shown), (1, expected));
+}
+
+#[test]
+fn a_byte_too_many_is_pointed_at() {
+    let folder = Folder::with_morning("a_byte_too_many_is_pointed_at");
+    let sentence = |place: usize| {
+        format!(
+            "logbook: refusal 15 at place {place}: the byte there is the fourth of a size or \
+             the ninth of a type, the last one allowed, and it says that another follows\n"
+        )
+    };
+    let shown = shown_behind(&folder, b"\xff\xff\xff\xffbehind");
+    let expected = "\
+145: refusal 15 at place 148
+       145          ff ff ff ff 62 65 68 69 6e 64                    |....behind|
+                             ^^
+";
+    assert_eq!(shown, (1, expected.into(), sentence(148)));
+    let shown = shown_behind(&folder, b"\x09\xff\xff\xff\xff\xff\xff\xff\xff\xffbehind");
+    let expected = "\
+145: refusal 15 at place 154
+       145          09 ff ff ff ff ff ff ff ff ff 62 65 68 69 6e 64  |..........behind|
+                                               ^^
+";
+    assert_eq!(shown, (1, expected.into(), sentence(154)));
 }
 
 #[test]
