@@ -6,8 +6,8 @@ use crate::random::Random;
 /// The most type numbers held at once.
 const ROWS: usize = 32;
 
-/// Type numbers at and around the widths of an integer, and the implied ones.
-pub const NUMBERS: [u32; 22] = [
+/// Type numbers of one to four bytes, at and around their widths, and the implied ones.
+const NUMBERS: [u64; 22] = [
     1,
     2,
     3,
@@ -28,9 +28,51 @@ pub const NUMBERS: [u32; 22] = [
     2_097_151,
     2_097_152,
     100_000_000,
+    SIZE_LIMIT - 1,
+    SIZE_LIMIT,
+];
+
+/// Type numbers of five to nine bytes, at and around their widths. The lowest 32 bits of some are
+/// those of another number.
+const GREAT: [u64; 16] = [
+    SIZE_LIMIT + 1,
+    SIZE_LIMIT + 2,
+    1 << 32,
+    1 << 32 | 1,
+    1 << 32 | 2,
+    1 << 32 | 111,
+    (1 << 35) - 1,
+    1 << 35,
+    (1 << 42) - 1,
+    1 << 42,
+    (1 << 49) - 1,
+    1 << 49,
+    (1 << 56) - 1,
+    1 << 56 | 2,
     NUMBER_LIMIT - 1,
     NUMBER_LIMIT,
 ];
+
+/// A type number: mostly one that others take too, once in four of five to nine bytes.
+pub fn number(random: &mut Random) -> u64 {
+    match random.below(16) {
+        0 => great(random),
+        1..=3 => random.pick(&GREAT),
+        _ => random.pick(&NUMBERS),
+    }
+}
+
+/// A type number of five to nine bytes: of each width as likely, at its ends or anywhere within.
+pub fn great(random: &mut Random) -> u64 {
+    let width = random.between(5, 9);
+    let (least, most) = (1 << (7 * (width - 1)), (1 << (7 * width)) - 1);
+    match random.below(6) {
+        0 => least,
+        1 => most,
+        2 => least | random.between(1, 300) as u64,
+        _ => least | random.bits() & most,
+    }
+}
 
 /// URIs that may be appended, some of them near the three names.
 pub const URIS: [&[u8]; 12] = [
@@ -91,7 +133,7 @@ pub struct Book {
     pub bytes: Vec<u8>,
     /// Where its items start.
     pub places: Vec<usize>,
-    held: Vec<(u32, Vec<u8>)>,
+    held: Vec<(u64, Vec<u8>)>,
 }
 
 impl Book {
@@ -136,19 +178,19 @@ impl Book {
         self.places.push(self.bytes.len());
     }
 
-    fn holds(&self, number: u32, uri: &[u8]) -> bool {
+    fn holds(&self, number: u64, uri: &[u8]) -> bool {
         self.held
             .iter()
             .any(|row| row.0 == number && row.1.as_slice() == uri)
     }
 
     /// A number, smallest or not, that holds this URI or, where none is given, a plain one.
-    fn holder(&self, random: &mut Random, uri: Option<&[u8]>) -> Option<u32> {
-        let fits = |row: &&(u32, Vec<u8>)| match uri {
+    fn holder(&self, random: &mut Random, uri: Option<&[u8]>) -> Option<u64> {
+        let fits = |row: &&(u64, Vec<u8>)| match uri {
             Some(uri) => row.1 == uri,
             None => row.1 != TYPE && row.1 != HEADER,
         };
-        let numbers: Vec<u32> = self.held.iter().filter(fits).map(|row| row.0).collect();
+        let numbers: Vec<u64> = self.held.iter().filter(fits).map(|row| row.0).collect();
         (!numbers.is_empty()).then(|| random.pick(&numbers))
     }
 
@@ -184,7 +226,7 @@ impl Book {
 
     /// An assignment; padding where no number holds urn:lozizol:type.
     fn assign(&mut self, random: &mut Random) {
-        let mut number = random.pick(&NUMBERS);
+        let mut number = number(random);
         let held = self.held.iter().any(|row| row.0 == number);
         if !held && self.held.len() == ROWS {
             number = random.pick(&self.held.iter().map(|row| row.0).collect::<Vec<_>>());
@@ -197,7 +239,7 @@ impl Book {
         self.assign_to(random, number, uri);
     }
 
-    fn assign_to(&mut self, random: &mut Random, number: u32, uri: Vec<u8>) {
+    fn assign_to(&mut self, random: &mut Random, number: u64, uri: Vec<u8>) {
         let Some(under) = self.holder(random, Some(TYPE)) else {
             return self.padding(random);
         };
@@ -213,20 +255,24 @@ impl Book {
     fn remove(&mut self, random: &mut Random) {
         let number = match self.held.as_slice() {
             held if !held.is_empty() && !random.one_in(4) => held[random.below(held.len())].0,
-            _ => random.pick(&NUMBERS),
+            _ => number(random),
         };
         self.assign_to(random, number, Vec::new());
     }
 
-    /// Assignments until 32 numbers are held.
+    /// Assignments until 32 numbers are held; in some books most of them are great ones.
     pub fn fill(&mut self, random: &mut Random) {
-        let mut number = random.between(2, 9) as u32;
+        let mut number = random.between(2, 9) as u64;
         while self.held.len() < ROWS && self.holder(random, Some(TYPE)).is_some() {
             let uri = random.pick(&URIS).to_vec();
             if self.held.iter().all(|row| row.0 != number) {
                 self.assign_to(random, number, uri);
             }
-            number += if random.one_in(8) { 100 } else { 1 };
+            number += match random.below(32) {
+                0 => 1 << random.between(28, 57),
+                1..=4 => 100,
+                _ => 1,
+            };
         }
     }
 

@@ -1,6 +1,6 @@
 //! Every call against the independent one, over logbooks and requests of every make.
 
-use crate::books::{long_uri, Book, URIS};
+use crate::books::{long_uri, number, Book, URIS};
 use crate::case::Case;
 use crate::hostile::{crafted, damaged, noise};
 use crate::pieces::*;
@@ -12,15 +12,18 @@ use crate::tally::Tally;
 use logbook::raw;
 
 /// Numbers to assign at their bounds.
-const NUMBER_BOUNDS: [u32; 8] = [
+const NUMBER_BOUNDS: [u64; 11] = [
     0,
     1,
     111,
     127,
     128,
+    SIZE_LIMIT,
+    SIZE_LIMIT + 1,
+    1 << 32 | 111,
     NUMBER_LIMIT,
     NUMBER_LIMIT + 1,
-    u32::MAX,
+    u64::MAX,
 ];
 /// Requests to a logbook in one round.
 const REQUESTS: usize = 40;
@@ -116,7 +119,10 @@ fn tight(name: String, random: &mut Random, tally: &mut Tally) {
     for _ in 0..4 {
         let request = match random.below(3) {
             0 => Request::Assign {
-                number: random.between(1, 300) as u32,
+                number: match random.below(3) {
+                    0 => number(random),
+                    _ => random.between(1, 300) as u64,
+                },
                 uri: random.pick(&URIS).to_vec(),
             },
             _ => {
@@ -269,7 +275,7 @@ fn append(uri: &[u8], data: usize) -> Request {
     }
 }
 
-fn assign(number: u32, uri: &[u8]) -> Request {
+fn assign(number: u64, uri: &[u8]) -> Request {
     let uri = uri.to_vec();
     Request::Assign { number, uri }
 }

@@ -1,6 +1,7 @@
 //! A buffer in two copies, one for each implementation, and the comparison of a call.
 
 use crate::books::Book;
+use crate::pieces::SIZE_LIMIT;
 use crate::random::Random;
 use crate::sides::{ours, theirs, Answer, Request};
 use crate::tally::Tally;
@@ -107,6 +108,7 @@ impl Case {
             self.report(used, request, &answer, &other);
         }
         tally.count(request.call(), answer.column(used));
+        tally.great += u64::from(meets_great(&answer));
         self.track.take(request, &answer);
         if !matches!(request, Request::Step { .. } | Request::List { .. }) {
             self.before.copy_from_slice(&self.ours);
@@ -134,6 +136,14 @@ impl Case {
             }
         }
         panic!("{}: the two implementations differ", self.name);
+    }
+}
+
+/// Whether a step met a type or an assigned number of five to nine bytes.
+fn meets_great(answer: &Answer) -> bool {
+    match answer {
+        Answer::Stepped { step, .. } => step.item.row.number.max(step.item.assigned) > SIZE_LIMIT,
+        _ => false,
     }
 }
 

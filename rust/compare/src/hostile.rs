@@ -1,6 +1,6 @@
 //! Logbooks that are damaged, cut off or made to mislead.
 
-use crate::books::{long_uri, Book};
+use crate::books::{great, long_uri, Book};
 use crate::pieces::*;
 use crate::random::Random;
 
@@ -10,7 +10,7 @@ const NOISE: [u8; 16] = [
 ];
 
 /// Ends of a logbook: sizes cut off, running past, broken; types the same.
-const TAILS: [&[u8]; 30] = [
+const TAILS: [&[u8]; 42] = [
     b"\x80",
     b"\x81",
     b"\xFF\xFF",
@@ -41,10 +41,22 @@ const TAILS: [&[u8]; 30] = [
     b"\x02\x80\x02",
     b"\x05\xFF\xFF\xFF\x7F\x01",
     b"\x81\x00",
+    b"\x05\x81\x80\x80\x80\x80",
+    b"\x05\x81\x80\x80\x80\x00",
+    b"\x06\x90\x80\x80\x80\x01x",
+    b"\x08\xFF\xFF\xFF\xFF\xFF\xFF\xFF\xFF",
+    b"\x08\xFF\xFF\xFF\xFF\xFF\xFF\xFF\xFF\xFF",
+    b"\x09\xFF\xFF\xFF\xFF\xFF\xFF\xFF\xFF",
+    b"\x09\xFF\xFF\xFF\xFF\xFF\xFF\xFF\xFF\x7F",
+    b"\x09\xFF\xFF\xFF\xFF\xFF\xFF\xFF\xFF\xFF",
+    b"\x09\x80\xFF\xFF\xFF\xFF\xFF\xFF\xFF\xFF",
+    b"\x0A\xFF\xFF\xFF\xFF\xFF\xFF\xFF\xFF\xFF\x01",
+    b"\x0A\xFF\xFF\xFF\xFF\xFF\xFF\xFF\xFF\xFF\xFF",
+    b"\x0B\x81\x80\x80\x80\x80\x80\x80\x80\x80\x00x",
 ];
 
 /// Data of an assignment with a fault each; a few sound ones among them.
-const ASSIGNMENTS: [&[u8]; 26] = [
+const ASSIGNMENTS: [&[u8]; 36] = [
     b"",
     b"\x00",
     b"\x00a:",
@@ -71,6 +83,16 @@ const ASSIGNMENTS: [&[u8]; 26] = [
     b"\x02urn:lozizol:header",
     b"\x01urn:lozizol:header",
     b"\x6Furn:lozizol:header",
+    b"\x90\x80\x80\x80\x6Furn:lozizol:header",
+    b"\x90\x80\x80\x80\x02a:",
+    b"\x81\x80\x80\x80\x80\x80\x80\x80\x00a:",
+    b"\x81\x80\x80\x80\x80\x80\x80\x80\x80\x00a:",
+    b"\xFF\xFF\xFF\xFF\xFF\xFF\xFF\xFF",
+    b"\xFF\xFF\xFF\xFF\xFF\xFF\xFF\xFF\x7F",
+    b"\xFF\xFF\xFF\xFF\xFF\xFF\xFF\xFF\x7Fa:",
+    b"\xFF\xFF\xFF\xFF\xFF\xFF\xFF\xFF\xFF",
+    b"\xFF\xFF\xFF\xFF\xFF\xFF\xFF\xFF\xFFa:",
+    b"\xFF\xFF\xFF\xFF\xFF\xFF\xFF\xFF\xFF\x01a:",
 ];
 
 /// A sound logbook, then a few bytes changed, put in, taken out or cut off.
@@ -125,7 +147,12 @@ fn push_fault(out: &mut Vec<u8>, random: &mut Random) {
             push_assignment(out, 1, 2, &uri);
         }
         6 => {
-            let number = random.between(2, 300) as u32;
+            let number = match random.below(6) {
+                0 => great(random),
+                // Ten bytes.
+                1 => random.bits() | 1 << 63,
+                _ => random.between(2, 300) as u64,
+            };
             if random.one_in(2) {
                 push_record(out, number, b"x");
             } else {
@@ -174,6 +201,11 @@ pub fn noise(random: &mut Random) -> Book {
             random.pick(&NOISE)
         };
         book.bytes.push(byte);
+        // Runs as long as a type may be, or one byte longer.
+        if random.one_in(24) {
+            let (byte, run) = (random.pick(&[0x80, 0x81, 0xFF]), random.between(2, 9));
+            book.bytes.resize(book.bytes.len() + run, byte);
+        }
     }
     book
 }

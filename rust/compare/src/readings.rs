@@ -1,5 +1,6 @@
 //! Readings handed in from outside: without plan, nearly fitting, or made to mislead.
 
+use crate::books::great;
 use crate::case::Track;
 use crate::pieces::*;
 use crate::random::Random;
@@ -39,7 +40,7 @@ fn edge(random: &mut Random, used: usize) -> usize {
     }
 }
 
-/// A field of a row at a bound.
+/// A row's place or length at a bound.
 fn row_edge(random: &mut Random, used: usize) -> u32 {
     let bounds = [
         0,
@@ -53,9 +54,8 @@ fn row_edge(random: &mut Random, used: usize) -> u32 {
         257,
         511,
         512,
-        NUMBER_LIMIT - 1,
-        NUMBER_LIMIT,
-        NUMBER_LIMIT + 1,
+        USED_LIMIT as u32,
+        USED_LIMIT as u32 + 1,
         u32::MAX - 255,
         u32::MAX - 1,
         u32::MAX,
@@ -67,6 +67,34 @@ fn row_edge(random: &mut Random, used: usize) -> u32 {
     }
 }
 
+/// A row's number at a bound, of five to nine bytes, or small.
+fn number_edge(random: &mut Random) -> u64 {
+    let bounds = [
+        0,
+        1,
+        2,
+        110,
+        111,
+        112,
+        SIZE_LIMIT,
+        SIZE_LIMIT + 1,
+        u32::MAX.into(),
+        1 << 32,
+        1 << 32 | 1,
+        1 << 32 | 111,
+        NUMBER_LIMIT - 1,
+        NUMBER_LIMIT,
+        NUMBER_LIMIT + 1,
+        u64::MAX - 1,
+        u64::MAX,
+    ];
+    match random.below(6) {
+        0 | 1 => random.pick(&bounds),
+        2 => great(random),
+        _ => random.below(300) as u64,
+    }
+}
+
 /// Random fields.
 fn anything(random: &mut Random, used: usize) -> raw::Reading {
     let mut reading = raw::fresh();
@@ -74,7 +102,7 @@ fn anything(random: &mut Random, used: usize) -> raw::Reading {
     reading.count = edge(random, used);
     reading.held = random.pick(&[0, 1, 2, 3, 31, 32, 33, 34, usize::MAX]);
     for row in 0..reading.held.min(raw::ROWS) {
-        reading.numbers[row] = row_edge(random, used);
+        reading.numbers[row] = number_edge(random);
         reading.places[row] = row_edge(random, used);
         reading.lengths[row] = row_edge(random, used);
     }
@@ -98,7 +126,10 @@ fn nearly(random: &mut Random, used: usize, known: &raw::Reading) -> raw::Readin
         0 => return moved(random, used, reading, |reading| &mut reading.position),
         1 => return moved(random, used, reading, |reading| &mut reading.count),
         2 => return moved(random, used, reading, |reading| &mut reading.held),
-        3 => &mut reading.numbers[row],
+        3 => {
+            reading.numbers[row] = near_number(random, reading.numbers[row]);
+            return reading;
+        }
         4 => &mut reading.places[row],
         _ => &mut reading.lengths[row],
     };
@@ -108,6 +139,16 @@ fn nearly(random: &mut Random, used: usize, known: &raw::Reading) -> raw::Readin
         _ => row_edge(random, used),
     };
     reading
+}
+
+/// A number beside this one, with another upper half, or at a bound.
+fn near_number(random: &mut Random, number: u64) -> u64 {
+    match random.below(8) {
+        0..=2 => number.wrapping_add(1),
+        3 | 4 => number.wrapping_sub(1),
+        5 => number ^ 1 << random.between(32, 63),
+        _ => number_edge(random),
+    }
 }
 
 /// The reading with one of its counts changed.
@@ -153,7 +194,11 @@ fn naming(random: &mut Random, log: &[u8], places: &[usize]) -> raw::Reading {
         .collect();
     let mut number = 0;
     for row in 0..random.between(1, raw::ROWS) {
-        number += if random.one_in(6) { 105 } else { 1 };
+        number += match random.below(48) {
+            0 => 1 << random.between(28, 57),
+            1..=8 => 105,
+            _ => 1,
+        };
         let (place, length) = match random.below(3) {
             0 | 1 if !names.is_empty() => random.pick(&names),
             _ => span(random, passed.len()),

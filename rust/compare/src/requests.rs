@@ -1,6 +1,6 @@
 //! What is asked of a logbook: usual requests, and those at every bound.
 
-use crate::books::{data_length, long_uri, uri, NUMBERS, URIS};
+use crate::books::{data_length, long_uri, number, uri, URIS};
 use crate::case::{Case, Track};
 use crate::pieces::*;
 use crate::random::Random;
@@ -150,13 +150,13 @@ fn assigned_uri(random: &mut Random) -> Vec<u8> {
 }
 
 /// A number to assign, at times one out of bounds.
-fn asked_number(random: &mut Random) -> u32 {
+fn asked_number(random: &mut Random) -> u64 {
     match random.below(16) {
-        0 => random.pick(&[0, NUMBER_LIMIT + 1, 1 << 31, u32::MAX - 1, u32::MAX]),
+        0 => random.pick(&[0, NUMBER_LIMIT + 1, 1 << 63 | 2, u64::MAX - 1, u64::MAX]),
         1..=4 => random.pick(&[1, 111]),
-        5..=7 => random.between(1, 40) as u32,
-        8 => random.between(1, 400) as u32,
-        _ => random.pick(&NUMBERS),
+        5..=7 => random.between(1, 40) as u64,
+        8 => random.between(1, 400) as u64,
+        _ => number(random),
     }
 }
 

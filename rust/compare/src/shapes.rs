@@ -28,7 +28,7 @@ impl Shape {
     fn new(
         name: &'static str,
         bytes: usize,
-        front: &[(u32, &[u8])],
+        front: &[(u64, &[u8])],
         next: impl Fn(usize, &mut Vec<u8>),
     ) -> Shape {
         let mut log = Vec::with_capacity(bytes + 70_000);
@@ -65,7 +65,7 @@ pub fn count_items(log: &[u8]) -> usize {
 /// (a) to (g), of less than that many bytes. Sizes and types have one byte in (a) and (d), more in
 /// (e), (f) and (g).
 pub fn shapes(bytes: usize) -> Vec<Shape> {
-    let most = NUMBER_LIMIT - 4;
+    let most = SIZE_LIMIT - 4;
     let (one, two, four) = (five(2), five(200), five(most));
     let typed = [&two[..], &[(300, TYPE)]].concat();
     let long = assignments(300, 301..325, 140, 200);
@@ -87,26 +87,26 @@ pub fn shapes(bytes: usize) -> Vec<Shape> {
 }
 
 /// The five URIs under the numbers from `first` on.
-fn five(first: u32) -> Vec<(u32, &'static [u8])> {
+fn five(first: u64) -> Vec<(u64, &'static [u8])> {
     (first..).zip(URIS).collect()
 }
 
 /// Entries of that many data bytes, under five numbers in turn.
-fn entries(first: u32, length: usize) -> impl Fn(usize, &mut Vec<u8>) {
+fn entries(first: u64, length: usize) -> impl Fn(usize, &mut Vec<u8>) {
     let data = vec![0x33; length];
-    move |index, log| push_record(log, first + index as u32 % 5, &data)
+    move |index, log| push_record(log, first + index as u64 % 5, &data)
 }
 
 /// In turn an assignment, its URI brought to that many bytes, and an entry under its number.
 fn assignments(
-    under: u32,
-    numbers: Range<u32>,
+    under: u64,
+    numbers: Range<u64>,
     uri_length: usize,
     length: usize,
 ) -> impl Fn(usize, &mut Vec<u8>) {
     let data = vec![0x33; length];
     move |index, log| {
-        let number = numbers.start + (index / 2) as u32 % numbers.len() as u32;
+        let number = numbers.start + (index / 2) as u64 % (numbers.end - numbers.start);
         let mut uri = URIS[index % 5].to_vec();
         uri.resize(uri_length, b'/');
         match index % 2 {

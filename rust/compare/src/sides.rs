@@ -17,7 +17,7 @@ pub enum Request {
     /// Append an entry.
     Append { uri: Vec<u8>, data: Vec<u8> },
     /// Assign a number, or remove it.
-    Assign { number: u32, uri: Vec<u8> },
+    Assign { number: u64, uri: Vec<u8> },
     /// Erase an entry.
     Erase { place: usize },
     /// Wipe a deleted record.
@@ -345,7 +345,7 @@ fn entry_item(buf: &[u8], reading: &raw::Reading, entry: reader::Item<'_>) -> ra
 }
 
 /// The row of a held number. At place 0 the header is under the implied 111.
-fn row_of(reading: &raw::Reading, number: u32) -> raw::Row {
+fn row_of(reading: &raw::Reading, number: u64) -> raw::Row {
     let rows = &reading.numbers[..reading.held];
     match rows.iter().position(|&held| held == number) {
         Some(row) if reading.position != 0 => raw::Row {

@@ -13,6 +13,8 @@ pub const COLUMNS: usize = FULL_FOR_REQUEST + 1;
 #[derive(Clone, Default)]
 pub struct Tally {
     counts: [[u64; COLUMNS]; CALLS.len()],
+    /// Steps that met a type or an assigned number of five to nine bytes.
+    pub great: u64,
 }
 
 impl Tally {
@@ -28,6 +30,7 @@ impl Tally {
                 *count += more;
             }
         }
+        self.great += other.great;
     }
 
     /// All calls counted.
@@ -57,6 +60,10 @@ impl fmt::Display for Tally {
                 write!(out, "{count:>9}")?;
             }
         }
-        Ok(())
+        write!(
+            out,
+            "\nsteps that met a number of five to nine bytes: {}",
+            self.great
+        )
     }
 }

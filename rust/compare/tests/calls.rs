@@ -35,6 +35,9 @@ fn every_call_agrees_and_every_refusal_occurs() {
     compare::calls::large(seed, &mut tally);
     println!("{} calls compared\n{tally}", tally.calls());
     assert!(tally.calls() >= CALLS_AT_LEAST, "too few calls");
+    let entries = tally.of(5, 0);
+    assert!(tally.great >= entries / 20, "too few great numbers");
+    assert!(tally.great <= entries / 2, "too many great numbers");
     for (call, name) in CALLS.iter().enumerate() {
         let can = can_occur(name);
         for column in 0..COLUMNS {

@@ -1,5 +1,6 @@
 //! Where the URI of a row stands, and which rows are refused.
 
+use compare::books::great;
 use compare::pieces::{HEADER, NUMBER_LIMIT, TYPE, USED_LIMIT};
 use compare::random::Random;
 use compare::settings::{spread, Settings};
@@ -79,7 +80,10 @@ fn check(seed: u64, round: usize, counts: &mut Counts) {
         0 => edge(random, used),
         _ => used.saturating_add(random.below(3)),
     };
-    let number = edge(random, 111) as u32;
+    let number = match random.below(4) {
+        0 => great(random),
+        _ => edge(random, 111) as u64,
+    };
     let span = edge(random, 255) as u32;
     let place = match random.below(3) {
         0 => used.wrapping_sub(span as usize) as u32,

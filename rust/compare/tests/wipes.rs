@@ -165,7 +165,7 @@ fn sparse_record(name: &str, random: &mut Random, counts: &mut Counts) {
     let length = BODIES[random.below(longest)];
     let mut bytes = Book::grown(random, 6).bytes;
     let place = bytes.len();
-    push_integer(&mut bytes, length as u32);
+    push_integer(&mut bytes, length as u64);
     let body = bytes.len();
     bytes.resize(body + length, 0);
     for _ in 0..random.below(6) {
