@@ -5,8 +5,8 @@
 //! what is asked of them, [`sides`] asks both implementations in one form, and
 //! [`case`] compares what comes back. [`shifts`] does all of this for the shift,
 //! which takes no logbook. [`calls`], [`series`], [`files`] and [`shifts`] have
-//! the runs that the tests and the example `small` share; [`shapes`] is for the
-//! benchmarks.
+//! the runs that the tests and the example `small` share, [`records`] those of
+//! single records; [`shapes`] is for the benchmarks.
 //!
 //! `LOGBOOK_SEED` and `LOGBOOK_ROUNDS` (a multiplier) make other and longer
 //! runs. The tests print what they counted: `cargo test --release -- --nocapture`.
@@ -21,6 +21,7 @@ pub mod hostile;
 pub mod pieces;
 pub mod random;
 pub mod readings;
+pub mod records;
 pub mod requests;
 pub mod series;
 pub mod settings;
