@@ -62,11 +62,11 @@ pub fn count_items(log: &[u8]) -> usize {
     }
 }
 
-/// (a) to (g), of less than that many bytes. Sizes and types have one byte in (a) and (d), more in
-/// (e), (f) and (g).
+/// (a) to (h), of less than that many bytes. Sizes and types have one byte in (a) and (d), more in
+/// (e), (f) and (g); in (h) the types alone have more.
 pub fn shapes(bytes: usize) -> Vec<Shape> {
-    let most = SIZE_LIMIT - 4;
-    let (one, two, four) = (five(2), five(200), five(most));
+    let (most, greatest) = (SIZE_LIMIT - 4, NUMBER_LIMIT - 4);
+    let (one, two, four, nine) = (five(2), five(200), five(most), five(greatest));
     let typed = [&two[..], &[(300, TYPE)]].concat();
     let long = assignments(300, 301..325, 140, 200);
     let short = assignments(1, 2..32, 11, 30);
@@ -83,6 +83,7 @@ pub fn shapes(bytes: usize) -> Vec<Shape> {
             &four,
             entries(most, 20_000),
         ),
+        Shape::new("(h) nine bytes: shots", bytes, &nine, entries(greatest, 30)),
     ]
 }
 
