@@ -68,3 +68,13 @@ pub fn push_header(out: &mut Vec<u8>, random: &mut Random) {
     out.push(b' ');
     out.extend(random.bytes(60));
 }
+
+/// The string of this length whose bytes are this number's digits, the lowest first.
+pub fn string(bytes: &[u8], length: usize, mut number: usize) -> Vec<u8> {
+    let digits = (0..length).map(|_| {
+        let byte = bytes[number % bytes.len()];
+        number /= bytes.len();
+        byte
+    });
+    digits.collect()
+}

@@ -2,7 +2,7 @@
 //! call that reads them. 02 [2], "Short integers": every first byte of a size and of a type.
 //! 02 [5], "Bigger type numbers": types and assigned numbers have up to nine bytes, sizes four.
 
-use compare::pieces::{integer, HEADER_LENGTH};
+use compare::pieces::{integer, string, HEADER_LENGTH};
 use compare::records::{ask_all, behind_header, WALKS};
 use compare::settings::spread;
 use compare::tally::{Tally, CALLS};
@@ -149,16 +149,6 @@ fn types_behind_longer_sizes() {
             assert_eq!(answers, expected, "{size:x?} {kind:x?}");
         }
     }
-}
-
-/// The string of this length whose bytes are this number's digits, the lowest first.
-fn string(bytes: &[u8], length: usize, mut number: usize) -> Vec<u8> {
-    let digits = (0..length).map(|_| {
-        let byte = bytes[number % bytes.len()];
-        number /= bytes.len();
-        byte
-    });
-    digits.collect()
 }
 
 #[test]

@@ -352,6 +352,46 @@ fn thirty_of_nine_bytes_beside_the_implied() {
     assert!(tally.great >= 9 * 60);
 }
 
+/// Thirty-two numbers and no other: the first one stands for urn:lozizol:type, and the implied ones
+/// are removed.
+fn fill_alone(numbers: &[u64], tally: &mut Tally) {
+    let case = &mut fresh(format!("{numbers:?} alone"), 2_000);
+    let under = numbers[0];
+    assigns(case, 1, under, TYPE, tally);
+    assigns(case, 1, 1, b"", tally);
+    assigns(case, under, 111, b"", tally);
+    for (index, &number) in numbers.iter().enumerate().take(32).skip(1) {
+        assigns(case, under, number, &uri(index), tally);
+    }
+    let used = case.track.used;
+    assert_eq!(ask(case, &assign(numbers[32], b"b:"), tally), (7, used));
+    assert_eq!(ask(case, &append(b"b:", b""), tally), (7, used));
+    let places: Vec<usize> = (1..32)
+        .map(|index| appends(case, numbers[index], &uri(index), b"P7", tally))
+        .collect();
+    assert_eq!(read(case, tally).numbers[..], numbers[..32]);
+    for place in places {
+        assert_eq!(ask(case, &erase(place), tally), (0, place + 1));
+        let wiped = case.ask(case.track.used, &Request::Wipe { place, limit: 99 }, tally);
+        assert!(matches!(wiped, Answer::Wiped(done) if done.refusal == 0 && done.stores > 3));
+    }
+    assert_eq!(read(case, tally).count, 35);
+}
+
+#[test]
+fn thirty_two_of_nine_bytes_alone() {
+    let Settings { seed, .. } = Settings::read("numbers of nine bytes alone");
+    let mut tally = Tally::default();
+    for kind in 0..3 {
+        fill_alone(
+            &of_nine_bytes(kind, &mut Random::new(seed, kind)),
+            &mut tally,
+        );
+    }
+    println!("{} calls compared\n{tally}", tally.calls());
+    assert!(tally.great >= 3 * 60);
+}
+
 /// A reading from outside whose 32 rows all have nine bytes, the eighth for urn:lozizol:type.
 fn full_reading(position: usize, numbers: &[u64]) -> raw::Reading {
     let mut reading = holding(position, &numbers[..32]);

@@ -1,6 +1,7 @@
 //! 02 [11], "Epoch shift on the rover": every figure at its bounds, any figures, and every URI that
 //! is or nearly is an epoch's.
 
+use compare::pieces::string;
 use compare::settings::{spread, Settings};
 use compare::shifts::{check, round, shot, uri, Counts};
 
@@ -157,16 +158,6 @@ fn every_epoch() {
     );
     println!("every epoch: {counts}");
     assert_eq!((counts.moved, counts.shifts()), (1_010_000, 1_010_000));
-}
-
-/// The string of this length whose bytes are this number's digits, the lowest first.
-fn string(bytes: &[u8], length: usize, mut number: usize) -> Vec<u8> {
-    let digits = (0..length).map(|_| {
-        let byte = bytes[number % bytes.len()];
-        number /= bytes.len();
-        byte
-    });
-    digits.collect()
 }
 
 /// Behind `urn:ep:` every string of up to eight digits, points and their neighbours.
