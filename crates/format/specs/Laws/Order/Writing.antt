@@ -47,13 +47,15 @@ module _ (k n : ℕ) where
         go (suc x ∷ c) e = (x, c, e)
         go (zero ∷ c) e =
             let z : readInteger (suc k) (0 ∷ (c ++ [])) ≡ value n (suc (length c)) = rw e at (write-reads []) in
-            let y : readInteger (suc k) (0 ∷ (c ++ [])) ≡ value (0 * 128 + 0) 1 = read-start (suc k) 0 (c ++ []) (low-is-no-lead 0 (omega arith)) ∙ digits-last k 0 0 0 (c ++ []) (omega arith) in
+            let y : readInteger (suc k) (0 ∷ (c ++ [])) ≡ value (0 * 128 + 0) 1 =
+            read-start (suc k) 0 (c ++ []) (low-is-no-lead 0 (omega arith)) ∙ digits-last k 0 0 0 (c ++ []) (omega arith) in
             absurd (omega (arith, value-value (sym y ∙ z)))
 
 pub number-long : (n : ℕ) → (1 ≤ length (writeInteger numberBytes n)) × (length (writeInteger numberBytes n) ≤ numberBytes)
 number-long n = write-long (pred numberBytes) n
 
-pub number-reads : (n : ℕ) → n ≤ numberLimit → (t : List ℕ) → readInteger numberBytes (writeInteger numberBytes n ++ t) ≡ value n (length (writeInteger numberBytes n))
+pub number-reads : (n : ℕ) → n ≤ numberLimit → (t : List ℕ)
+    → readInteger numberBytes (writeInteger numberBytes n ++ t) ≡ value n (length (writeInteger numberBytes n))
 number-reads n h = write-reads (pred numberBytes) n (omega (arith, h))
 
 -- ---- a written record
