@@ -13,6 +13,7 @@ pub mod Register
 pub mod Requests
 pub mod Calls
 pub mod Listing
+pub mod Moves
 -- behind demand 1, demand 2 and demand 3
 pub mod Denials
 pub mod Lists

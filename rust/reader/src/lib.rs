@@ -1,12 +1,13 @@
 //! An independent implementation of the Lozizol 0.5 logbook, written from the
-//! papers alone: 01 (the scope, which decides), 02 \[1\], \[2\], \[5\] and \[11\]
-//! (the change requests that have landed) and 000 (the format).
+//! papers alone: 01 (the scope, which decides), 02 \[1\], \[2\], \[5\], \[9\] and
+//! \[11\] (the change requests that have landed) and 000 (the format).
 //!
 //! A logbook is a lent buffer and a used length. [`start`] makes one,
-//! [`Reading::step`] reads it item by item, [`append`] and [`assign`] write at
-//! its end, [`erase`] and [`wipe`] change what is there, [`listing`] writes
-//! the text of the listing program. A refused call changes nothing. Apart from
-//! any logbook, [`shift`] moves a shot to another epoch.
+//! [`Reading::step`] reads it item by item and [`SlowReading::move_on`] in
+//! smaller moves, [`append`] and [`assign`] write at its end, [`erase`] and
+//! [`wipe`] change what is there, [`listing`] writes the text of the listing
+//! program. A refused call changes nothing. Apart from any logbook, [`shift`]
+//! moves a shot to another epoch.
 //!
 //! # Readings of the papers
 //!
@@ -104,7 +105,7 @@
 //! 33. *The doubles* are whole micrometres and at most 10,001,000,000,000 in
 //!     size, below 2^53. So [`Shifted`] holds the whole numbers they equal; the
 //!     sign that a double's zero can have is no part of that.
-//! 34. *Two limits* (02 \[5\], to the last point). A record's type and the number
+//! 34. *Two limits* (02 \[5\], to point 39). A record's type and the number
 //!     in an assignment's data have nine bytes, a size four. 01's "any written
 //!     integer: at most 4 bytes" holds for sizes alone then. Nine bytes are 63
 //!     bits, so none of them passes 9,223,372,036,854,775,807: what is read is
@@ -122,6 +123,51 @@
 //!     is 5 at the record's start and not 15, also with an empty URI behind it.
 //! 39. *The whole number counts.* 4,294,967,296 is not type 0, 4,294,967,297 is
 //!     not implied, and urn:lozizol:header goes to 111 alone.
+//! 40. *What a slow reading holds* (02 \[9\], to the last point) tells which move
+//!     comes next: none of the four fields, type's place and end, or all four.
+//!     Either pair is in use where one of its two isn't 0, so half a pair is 13.
+//!     A held type of 0 is 13 too: no row holds 0.
+//! 41. *Padding and the end* have no size to be taken. Each is one move, with
+//!     nothing held. While a size is held the byte at the position isn't looked
+//!     at: a 00 that a wipe left there is no padding then.
+//! 42. *Place 0 as one move* is a step's in every way (points 1 and 2). With any
+//!     of the four fields not 0 it is 13.
+//! 43. *"Besides"*: all that makes a plain reading fit stays, and its position is
+//!     the record's start. A written URI that ends within the record is 13.
+//! 44. *The fit looks at no byte of the record.* The type's place fits 4 past the
+//!     position where the size there has one byte, and so do a held type and a
+//!     data's place that other bytes there would not give. The moves go by what
+//!     is held. "Within" and "not past" allow the used length and the end
+//!     themselves: an entry may have no data.
+//! 45. *Each move takes its own part, as it is then.* The type move looks at no
+//!     size: its bytes go from the held place to the held end (point 21), also
+//!     where a wipe made the size smaller. The data move looks at no size and no
+//!     type (point 48 aside). So 2 is a size move's alone, and a used length
+//!     that falls below a held end is 13.
+//! 46. *The places* of 14, 15 and 16 in a type move are counted from what is
+//!     held: the type's place, the ninth byte from there, the last byte before
+//!     the end. 6, 3, 5 and 7 are at the record's start, which is the position.
+//! 47. *A record done by its type move* is a deleted one at the position, also
+//!     where all its bytes are 00 by then. The next item is the one at the held
+//!     end.
+//! 48. *The header form* is asked of the bytes from the position to the held end
+//!     as the data move finds them, size and type among them. It is 3 where the
+//!     type became 00 after it was taken. The held type and the data's place are
+//!     no part of the form.
+//! 49. *An erase between type and data* is late: the data move still gives the
+//!     entry. Against the premise wiped bytes are taken as they are: a plain
+//!     entry has 00 for data, an assignment is 5 (its number is 0).
+//! 50. *"An entry counts as passed"* is said of the place where its record
+//!     starts. That place is passed with the type, the places within the record
+//!     with the position (nothing starts there: an erase or wipe aimed at one is
+//!     8 on either side). A deleted record is passed when it is done.
+//! 51. *"No wipe on a record"* is one aimed at its start. One aimed within it is
+//!     8, on no record, and not forbidden.
+//! 52. *Passed and forbidden* are told by the fields alone, also where the reading
+//!     wouldn't fit; the type is taken where `number` isn't 0.
+//! 53. *A refused move* lets go of nothing: the same move comes next.
+//! 54. *The list.* An entry comes into it with its data move, with the bytes of
+//!     its URI and data as they are then.
 
 #![forbid(unsafe_code)]
 #![warn(missing_docs)]
@@ -135,6 +181,7 @@ mod reading;
 mod record;
 mod refusal;
 mod register;
+mod slow;
 mod uri;
 
 pub use calls::{append, assign, erase, start, wipe, Appended};
@@ -143,6 +190,7 @@ pub use listing::listing;
 pub use reading::{Item, Kind, Reading};
 pub use refusal::Refusal;
 pub use register::Row;
+pub use slow::{Moved, SlowReading};
 
 /// 01, Figures: the largest used length.
 const MAX_USED: usize = 16_777_216;

@@ -22,7 +22,7 @@ use Rattle.format.specs.Laws.Denials.Items.{first-on, first-here, none-s
 use Rattle.format.specs.Laws.Denials.Walks.{walks-mean, refused-numbered}
 
 -- ---- each condition is the denial of what the call tests
-over-sound : (b : Book) → isOver b ≡ not (sound b)
+pub over-sound : (b : Book) → isOver b ≡ not (sound b)
 unfolding isOver sound
 over-sound b =
     rw (over-not (b .used) (length (b .buffer)), over-not (b .used) usedLimit)
@@ -63,10 +63,10 @@ module _ (b : Book) (h : sound b ≡ true) where
   unfolding sound
   used-few = leb-true (b .used) usedLimit (and-right (leb (b .used) (length (b .buffer))) (leb (b .used) usedLimit) h)
 
-  used-length : length (usedBytes b) ≡ b .used
+  pub used-length : length (usedBytes b) ≡ b .used
   used-length = length-take-le (b .used) (b .buffer) used-inside
 
-  not-over : isOver b ≡ false
+  pub not-over : isOver b ≡ false
   not-over = over-sound b ∙ ap not h
 
   nothing-fits : doesNotFit [] b ≡ false
@@ -250,12 +250,12 @@ module _ (o : Origin) (c : Call) (b : Book) where
   call-numbered x e = first-numbered (callRules o c b) x call-numbers (sym call-refusal ∙ e)
 
 -- ---- a step
-moved-refusal : (v : Got) (r : Reading) → refusalOfShown (moved v r .answer) ≡ refusalOfGot v
+pub moved-refusal : (v : Got) (r : Reading) → refusalOfShown (moved v r .answer) ≡ refusalOfGot v
 unfolding moved
 moved-refusal (bad x) r = refl
 moved-refusal (got i n h) r = refl
 
-moved-keeps : (v : Got) (r : Reading) (x : Refusal) → refusalOfShown (moved v r .answer) ≡ some x → moved v r .reading ≡ r
+pub moved-keeps : (v : Got) (r : Reading) (x : Refusal) → refusalOfShown (moved v r .answer) ≡ some x → moved v r .reading ≡ r
 unfolding moved
 moved-keeps (bad y) r x e = refl
 moved-keeps (got i n h) r x e = none-some e

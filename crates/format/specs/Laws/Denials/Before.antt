@@ -12,7 +12,7 @@ use Rattle.format.specs.Integers.{Integer}
 use Rattle.format.specs.Register.{Names}
 use Rattle.format.specs.Laws.Register.{some-some}
 use Rattle.format.specs.Records.{Refusal, refusal, element}
-use Rattle.format.specs.Refusals.{Rule, firstOf, standing, isAmong, InTable, isFaulty, isUnfinished, sizeAt, bodyAt, typeAt, leadsWith80, isTooLong, isPastSize, isIncomplete, integerRules, meaningRules, recordRules, isBroken, baseRules, isSplit, IsSplit, asBefore, elementRules, refusalBefore, refusalOfGot}
+use Rattle.format.specs.Refusals.{Rule, firstOf, standing, isAmong, InTable, isFaulty, isUnfinished, sizeAt, bodyAt, typeAt, leadsWith80, isTooLong, isPastSize, isIncomplete, integerRules, dataRules, meaningRules, recordRules, isBroken, baseRules, isSplit, IsSplit, asBefore, elementRules, refusalBefore, refusalOfGot}
 use Rattle.format.specs.Laws.Denials.Integers.{ByTests, leading, long, short, over, read-tests}
 use Rattle.format.specs.Laws.Denials.Items.{none-some, element-refusal, first-numbered, record-numbered, element-numbered}
 
@@ -73,7 +73,7 @@ module _ (g : Names) (p : ℕ) (l : List ℕ) where
   integers-split = (refl, (refl, (refl, (refl, (refl, tt)))))
 
   meanings-not : AreSplit false (meaningRules g p l)
-  unfolding AreSplit meaningRules
+  unfolding AreSplit meaningRules dataRules
   meanings-not = (refl, (refl, (refl, (refl, tt))))
 
   record-before : firstOf (baseRules g p l) ≡ told p (recordRules g p l)

@@ -22,7 +22,7 @@ use Rattle.format.specs.Header.{headerForm}
 use Rattle.format.specs.Register.{isHeld, find, hasRoom, Named, Names, namedNumber, namedUri, uriOf}
 use Rattle.format.specs.Laws.Register.{some-some}
 use Rattle.format.specs.Records.{Refusal, roomFor, assignable, assignmentPart, headerPart, dataPart, namedPart, typePart, sizePart, element, headerAt, Origin, atHeader, item}
-use Rattle.format.specs.Refusals.{Rule, rule, firstOf, NoneDue, FirstDue, due, standing, isAmong, InTable, sizeAt, recordAt, bodyAt, typeAt, dataAt, assignedNumber, assignedUri, uriAt, isNamed, isIncomplete, leadsWith80, isTooLong, isPastSize, typePlace, lastPlace, notHeld, notForm, badAssignment, isTooMany, noRoom, integerRules, meaningRules, recordRules, headerRules, elementRules, itemRules, refusalOfGot}
+use Rattle.format.specs.Refusals.{Rule, rule, firstOf, NoneDue, FirstDue, due, standing, isAmong, InTable, valueIn, sizeAt, recordAt, bodyAt, typeAt, dataAt, assignedNumber, assignedUri, uriAt, isNamed, isIncomplete, leadsWith80, isTooLong, isPastSize, typePlace, lastPlace, notHeld, notForm, badAssignment, isTooMany, noRoom, integerRules, dataRules, meaningRules, recordRules, headerRules, elementRules, itemRules, refusalOfGot}
 use Rattle.format.specs.Laws.Denials.Integers.{ByTests, leading, long, short, over, read-tests}
 
 -- ---- the first rule
@@ -99,45 +99,53 @@ too-many n (c ∷ u) g = go (isHeld (find namedNumber n g))
         (λ h. rw (lt-ltb (length g) rowLimit h, lt-leb rowLimit (length g) h))
         (λ h. rw (le-ltb (length g) rowLimit h, le-leb rowLimit (length g) h))
 
-positive : (k : ℕ) → eqb (suc k) 0 ≡ false
+pub positive : (k : ℕ) → eqb (suc k) 0 ≡ false
 positive k = ne-eqb (suc k) 0 (λ e. omega arith)
 
 header-other : (u : List ℕ) → same u headerName ≡ true → same u typeName ≡ false
 unfolding same typeName headerName ascii
 header-other u e = rw (same-equal u headerName e)
 
+-- ---- the data d of the record w at p, under the name y
+module _ (g : Names) (p : ℕ) (w d : List ℕ) (y : Named) where
+  number-stage : (t q n : ℕ) → same (namedUri y) headerName ≡ false → same (namedUri y) typeName ≡ true → (v : Integer) → assignedNumber d ≡ v
+      → refusalOfGot (assignmentPart v y p t q d n g) ≡ firstOf (dataRules g p (some (namedUri y)) w d)
+  unfolding firstOf dataRules assignmentPart notForm badAssignment noRoom assignedUri
+  number-stage t q n a e notOver f = rw (a, e, f)
+  number-stage t q n a e (broken why at) f = rw (a, e, f)
+  number-stage t q n a e (value zero m) f = rw (a, e, f)
+  number-stage t q n a e (value (suc k) m) f =
+      by-test (assignable (suc k) (drop m d))
+      (λ h. by-test (roomFor (suc k) (drop m d) g)
+      (λ r. rw (a, e, f, positive k, h, too-many (suc k) (drop m d) g, r))
+      (λ r. rw (a, e, f, positive k, h, too-many (suc k) (drop m d) g, r)))
+      (λ h. rw (a, e, f, positive k, h))
+
+  assigning-part : (t q n : ℕ) → same (namedUri y) headerName ≡ false → same (namedUri y) typeName ≡ true
+      → dataPart y p t q w d n g ≡ assignmentPart (assignedNumber d) y p t q d n g
+  unfolding dataPart assignedNumber
+  assigning-part t q n h f = rw (h, f)
+
+  pub data-refusal : (t q n : ℕ) → refusalOfGot (dataPart y p t q w d n g) ≡ firstOf (dataRules g p (some (namedUri y)) w d)
+  unfolding firstOf dataRules dataPart headerPart notForm badAssignment noRoom
+  data-refusal t q n =
+      by-test (same (namedUri y) headerName)
+      (λ h. by-test (headerForm w) (λ f. rw (h, header-other (namedUri y) h, f)) (λ f. rw (h, f)))
+      (λ h. by-test (same (namedUri y) typeName)
+      (λ f. ap refusalOfGot (assigning-part t q n h f) ∙ number-stage t q n h f (assignedNumber d) refl)
+      (λ f. rw (h, f)))
+
 -- ---- a record l at p, stage by stage from the last: at each, the rules of the stages before it aren't due
 module _ (g : Names) (p : ℕ) (l : List ℕ) where
-  number-stage : (y : Named) (t q n : ℕ) → notHeld g l ≡ false → notForm g l ≡ false → isNamed typeName (uriAt g l) ≡ true
-      → (v : Integer) → assignedNumber l ≡ v
-      → refusalOfGot (assignmentPart v y p t q (dataAt l) n g) ≡ firstOf (meaningRules g p l)
-  unfolding firstOf meaningRules assignmentPart badAssignment noRoom assignedUri
-  number-stage y t q n c d e notOver f = rw (c, d, e, f)
-  number-stage y t q n c d e (broken why at) f = rw (c, d, e, f)
-  number-stage y t q n c d e (value zero m) f = rw (c, d, e, f)
-  number-stage y t q n c d e (value (suc k) m) f =
-      by-test (assignable (suc k) (drop m (dataAt l)))
-      (λ h. by-test (roomFor (suc k) (drop m (dataAt l)) g)
-      (λ r. rw (c, d, e, f, positive k, h, too-many (suc k) (drop m (dataAt l)) g, r))
-      (λ r. rw (c, d, e, f, positive k, h, too-many (suc k) (drop m (dataAt l)) g, r)))
-      (λ h. rw (c, d, e, f, positive k, h))
-
-  uri-stage : (t q n : ℕ) → notHeld g l ≡ false → (y : Named) → uriAt g l ≡ some (namedUri y)
-      → refusalOfGot (dataPart y p t q (recordAt l) (dataAt l) n g) ≡ firstOf (meaningRules g p l)
-  unfolding firstOf meaningRules dataPart headerPart notForm badAssignment noRoom assignedNumber
-  uri-stage t q n c y e =
-      by-test (same (namedUri y) headerName)
-      (λ h. by-test (headerForm (recordAt l))
-      (λ f. rw (c, e, h, header-other (namedUri y) h, f))
-      (λ f. rw (c, e, h, f)))
-      (λ h. by-test (same (namedUri y) typeName)
-      (λ f. rw (h, f) (number-stage y t q n c (rw (e, h)) (rw (e, f)) (assignedNumber l) refl))
-      (λ f. rw (c, e, h, f)))
-
   -- a type that is there
+  meaning-held : (u : List ℕ) → notHeld g (valueIn (typeAt l)) ≡ false → uriAt g l ≡ some u
+      → firstOf (meaningRules g p l) ≡ firstOf (dataRules g p (some u) (recordAt l) (dataAt l))
+  unfolding meaningRules
+  meaning-held u c e = first-on _ _ c ∙ ap (λ (v : Option (List ℕ)). firstOf (dataRules g p v (recordAt l) (dataAt l))) e
+
   meaning-stage : (k n a j : ℕ) → typeAt l ≡ value a j
       → refusalOfGot (typePart (value a j) p k (recordAt l) (bodyAt l) n g) ≡ firstOf (meaningRules g p l)
-  unfolding firstOf meaningRules typePart notHeld notForm badAssignment noRoom uriAt uriOf namedPart dataAt
+  unfolding firstOf meaningRules dataRules typePart notHeld notForm badAssignment noRoom uriAt uriOf namedPart dataAt
   meaning-stage k n zero j e = rw e
   meaning-stage k n (suc m) j e = go (find namedNumber (suc m) g) refl
     where
@@ -146,7 +154,9 @@ module _ (g : Names) (p : ℕ) (l : List ℕ) where
       go none q = rw (e, positive m, q)
       go (some u) q =
           let d : dataAt l ≡ drop j (bodyAt l) = rw e in
-          rw (← d) (uri-stage (p + k) (p + k + j) n (rw (e, positive m, q)) u (rw (e, q)))
+          rw (← d)
+          (data-refusal g p (recordAt l) (dataAt l) u (p + k) (p + k + j) n
+          ∙ sym (meaning-held (namedUri u) (rw (e, positive m, q)) (rw (e, q))))
 
   -- a record that is whole: its size takes k bytes, and its last byte is n behind the first
   type-stage : (s k n : ℕ) → isIncomplete l ≡ false → leadsWith80 l ≡ false → isTooLong sizeBytes l ≡ false → sizeAt l ≡ value s k
@@ -180,7 +190,7 @@ unfolding element elementRules firstOf sizeAt
 element-refusal g p zero xs = refl
 element-refusal g p (suc x) xs = size-stage g p (suc x ∷ xs) (sizeAt (suc x ∷ xs)) refl (read-tests sizeBytes (suc x ∷ xs) (omega arith))
 
-header-refusal : (l : List ℕ) → refusalOfGot (headerAt l) ≡ firstOf (headerRules l)
+pub header-refusal : (l : List ℕ) → refusalOfGot (headerAt l) ≡ firstOf (headerRules l)
 unfolding headerAt headerRules firstOf
 header-refusal l =
     by-test (leb headerLength (length l))
@@ -217,7 +227,7 @@ unfolding Numbered
 numbered-none = tt
 
 pub record-numbered : (g : Names) (p : ℕ) (l : List ℕ) → Numbered (recordRules g p l)
-unfolding recordRules integerRules meaningRules
+unfolding recordRules integerRules meaningRules dataRules
 record-numbered g p l =
     numbered 2 _ _ _ refl
     (numbered 14 _ _ _ refl

@@ -9,6 +9,7 @@ use Rattle.format.specs.Register.{Names}
 use Rattle.format.specs.Records.{Refusal, refusal, Item, padding, deleted, live, Got, bad, got, logbook, atHeader, item}
 use Rattle.format.specs.Reading.{Reading, fresh, fits, Shown, shown, end, refused, Stepped, stepped, counted, numbered, moved, atEnd, stepAt, namesIn, step}
 use Rattle.format.specs.Calls.{Book, parted, sound, stepOn}
+use Rattle.format.specs.Interleaving.{replies as repliesBy, reply as replyBy, next as nextBy}
 use Rattle.format.specs.Series.{World, world, steps, Reply, showed, reply, next, replies}
 use Rattle.format.specs.Grammar.{Listed}
 use Rattle.format.specs.Entries.{told, listed, numberTold, numbersShown, countUp}
@@ -75,7 +76,7 @@ count-shown c n b (shown i m) r k h =
     (h ∙ ap (λ (z : ℕ). countUp (suc z) (length (listed (Run (world b r) n)))) (q .1))
 
 count-run : (n : ℕ) (b : Book) (r : Reading) → numbersShown (Run (world b r) n) ≡ countUp (suc (r .count)) (length (listed (Run (world b r) n)))
-unfolding replies reply next numbersShown listed countUp
+unfolding repliesBy replyBy nextBy numbersShown listed countUp
 count-run zero b r = refl
 count-run (suc n) b r =
     count-shown (r .count) n b (stepOn logbook b r .answer) (stepOn logbook b r .reading) (step-counts b r) (count-run n b (stepOn logbook b r .reading))

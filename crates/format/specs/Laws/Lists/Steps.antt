@@ -14,6 +14,7 @@ use Rattle.format.specs.Register.{Names}
 use Rattle.format.specs.Records.{Refusal, refusal, Item, Got, bad, got, logbook, atHeader, item}
 use Rattle.format.specs.Reading.{Walked, walk, whole, stop, Reading, fresh, Shown, shown, end, refused, stepped, numbered, moved, atEnd, stepAt, step}
 use Rattle.format.specs.Calls.{usedBytes, Book, parts, parted, bookOf, sound}
+use Rattle.format.specs.Interleaving.{replies as repliesBy, final as finalBy}
 use Rattle.format.specs.Series.{World, Event, steps, Reply, said, showed, next, replies, final, ToEnd, Reads}
 use Rattle.format.specs.Grammar.{Listed, Register, Logbook}
 use Rattle.format.specs.Entries.{told, listed, stopped, entriesOf, endingOf}
@@ -29,7 +30,7 @@ use Rattle.format.specs.Laws.Lists.Walking.{parse-logbook, logbook-long}
 -- ---- the steps list what the walk rolls out
 listed-step : (n : ℕ) (l rest : List ℕ) (r r1 : Reading) (x : Shown) → length l ≤ usedLimit → step logbook l r ≡ stepped x r1
     → replies logbook (wld l rest r) (replicate (suc n) steps) ≡ showed x r1 ∷ replies logbook (wld l rest r1) (replicate n steps)
-unfolding replies
+unfolding repliesBy
 listed-step n l rest r r1 x b e = rw (step-reply logbook l rest r r1 x b e, step-next logbook l rest r r1 x b e)
 
 -- where the walk comes to: its refusal, or the end, at p
@@ -116,7 +117,7 @@ ending-walk l rest b = rw zero-add at (steps-roll (suc (length l)) l rest b (ome
 
 -- ---- any reading that comes to its end
 replies-append : (w : World) (es fs : List Event) → replies logbook w (es ++ fs) ≡ replies logbook w es ++ replies logbook (final logbook w es) fs
-unfolding replies final
+unfolding repliesBy finalBy
 replies-append w [] fs = refl
 replies-append w (e ∷ es) fs = rw (replies-append (next logbook w e) es fs)
 
@@ -156,8 +157,8 @@ reads-walk l rest b r = reads-good logbook (stands-none []) (r .list) [] l rest 
 walk-reads : (l rest : List ℕ) → Good logbook (stands-none []) [] 0 l → Reads logbook (bookOf (parts l rest))
 unfolding walk
 walk-reads l rest q =
-    let m = rest-of logbook (stands-none []) (length l) fresh 0 [] l fresh-sees (omega arith) q in
-    record { list = m .list; isToEnd = m .to-end; read = runs-replies logbook (m .runs [] rest refl refl) }
+    let m = rest-of logbook (stands-none []) fresh [] fresh-sees l q in
+    record { list = m .list; isToEnd = m .to-end; read = runs-replies logbook (m .runs [] rest (refl, refl)) }
 
 pub past-of : (p : ℕ) → atHeader logbook p ≡ false → 1 ≤ p
 past-of zero e = from-zero-one (cc)
