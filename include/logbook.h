@@ -136,7 +136,9 @@ enum { /* what an item is */
     LOGBOOK_HEADER = 3,     /* a header, a live entry too */
     LOGBOOK_ASSIGNMENT = 4, /* an assignment, a live entry too */
     LOGBOOK_END = 5,        /* the used length is reached */
-    LOGBOOK_REFUSED = 6     /* nothing was read: see `refusal` */
+    LOGBOOK_REFUSED = 6,    /* nothing was read: see `refusal` */
+    LOGBOOK_SIZE_HELD = 7,  /* of a move alone: the record's size is taken, its type comes next */
+    LOGBOOK_TYPE_HELD = 8   /* of a move alone: its type is taken, its data comes next */
 };
 
 typedef struct logbook_item {
@@ -161,9 +163,37 @@ logbook_reading logbook_fresh(void);
 logbook_step_result logbook_step(const uint8_t *buf, size_t len, size_t used, logbook_reading reading);
 
 /*
+ * ---- read a logbook slowly, as over radio: a record's size, type and data are taken in three moves, with other calls between them.
+ * Padding, the end and the header at place 0 are one move, a deleted record is done with its type. Until a record is done
+ * the position stays at its start, and the reading holds what is taken; what is not held is 0. Moves with nothing called between
+ * show what steps show.
+ *
+ * Calls between the moves change nothing of the live entries that the reading shows, if there is no wipe of a record whose type is
+ * taken and whose data isn't (one that is refused, or has the limit 0, does no harm). It shows them as if appends, assignments and
+ * removals, and erases and wipes at places that it hasn't passed, had been made before it, and erases and wipes at the
+ * others after it. It has passed the places below its position, and that place itself once the type is taken.
+ */
+typedef struct logbook_slow {
+    logbook_reading reading;
+    size_t type_place; /* with the size taken: where the record's type starts; else 0 */
+    size_t end;        /* with the size taken: the record's end; else 0 */
+    uint64_t number;   /* with the type taken: it; else 0 */
+    size_t data_place; /* with the type taken: where the record's data starts; else 0 */
+} logbook_slow;
+
+typedef struct logbook_move_result {
+    logbook_item item; /* as a step's; of kinds 7 and 8 `place` is the record's start and all else 0 */
+    logbook_slow slow; /* behind the move; at the end, and where refused, as it was handed in */
+} logbook_move_result;
+
+/* Refused with 1 and 13 as a step; then the size's move with 2, 14 and 15, the type's with 14, 15, 16 and 6, the data's with 3, 5 and 7. */
+logbook_slow logbook_slow_fresh(void);
+logbook_move_result logbook_move(const uint8_t *buf, size_t len, size_t used, logbook_slow slow);
+
+/*
  * ---- the URI of a row: `length` bytes at `place` of the buffer, or, where `implied` is 1, of LOGBOOK_IMPLIED_NAMES. `len` and `used` are the
  * buffer's. Refused with 1 for the used length, and with 13 for a row that a reading at the used length would not fit with;
- * never for the row of an item that a step on this buffer and used length has shown.
+ * never for the row of an item that a step or a move on this buffer and used length has shown.
  */
 #define LOGBOOK_IMPLIED_NAMES "urn:lozizol:typeurn:lozizol:header"
 

@@ -69,6 +69,15 @@ AT(logbook_item, assigned_place, 7 * WORD + 24);
 SIZE(logbook_step_result, sizeof(logbook_item) + sizeof(logbook_reading));
 AT(logbook_step_result, item, 0);
 AT(logbook_step_result, reading, sizeof(logbook_item));
+SIZE(logbook_slow, sizeof(logbook_reading) + 3 * WORD + 8);
+AT(logbook_slow, reading, 0);
+AT(logbook_slow, type_place, sizeof(logbook_reading));
+AT(logbook_slow, end, sizeof(logbook_reading) + WORD);
+AT(logbook_slow, number, sizeof(logbook_reading) + 2 * WORD);
+AT(logbook_slow, data_place, sizeof(logbook_reading) + 2 * WORD + 8);
+SIZE(logbook_move_result, sizeof(logbook_item) + sizeof(logbook_slow));
+AT(logbook_move_result, item, 0);
+AT(logbook_move_result, slow, sizeof(logbook_item));
 SIZE(logbook_uri_answer, 4 * WORD);
 AT(logbook_uri_answer, refusal, 0);
 AT(logbook_uri_answer, implied, WORD);
@@ -163,6 +172,102 @@ static void read_morning(const uint8_t *buf) {
     logbook_reading last = reading;
     step(buf, &reading, LOGBOOK_END, MORNING);
     CHECK(memcmp(&last, &reading, sizeof last) == 0 && reading.count == 5);
+}
+
+/* One move, whose item is expected to be of this kind at this place; the reading goes on. */
+static logbook_item move_on(const uint8_t *buf, logbook_slow *slow, size_t kind, size_t place) {
+    logbook_move_result result = logbook_move(buf, ROOM, MORNING, *slow);
+    CHECK(result.item.kind == kind && result.item.refusal == LOGBOOK_DONE && result.item.place == place);
+    *slow = result.slow;
+    return result.item;
+}
+
+/* Whether these four numbers are held. */
+static int holds(const logbook_slow *slow, size_t type_place, size_t end, uint64_t number, size_t data_place) {
+    return slow->type_place == type_place && slow->end == end && slow->number == number && slow->data_place == data_place;
+}
+
+/* The morning's file in moves: each record in three, the header in one; undisturbed what the steps show. */
+static void move_morning(const uint8_t *buf) {
+    logbook_slow slow = logbook_slow_fresh();
+    logbook_reading fresh = logbook_fresh();
+    CHECK(memcmp(&slow.reading, &fresh, sizeof fresh) == 0 && holds(&slow, 0, 0, 0, 0));
+    move_on(buf, &slow, LOGBOOK_HEADER, 0);
+    CHECK(slow.reading.position == 109 && holds(&slow, 0, 0, 0, 0));
+    move_on(buf, &slow, LOGBOOK_SIZE_HELD, 109);
+    CHECK(slow.reading.position == 109 && slow.reading.count == 1 && holds(&slow, 110, 123, 0, 0));
+    move_on(buf, &slow, LOGBOOK_TYPE_HELD, 109);
+    CHECK(slow.reading.position == 109 && holds(&slow, 110, 123, 1, 111));
+    logbook_item item = move_on(buf, &slow, LOGBOOK_ASSIGNMENT, 109);
+    CHECK(is_entry(buf, item, 2, "urn:lozizol:type", 12) && item.assigned == 2 && item.assigned_place == 112);
+    CHECK(slow.reading.position == 123 && slow.reading.count == 2 && holds(&slow, 0, 0, 0, 0));
+
+    for (logbook_reading reading = slow.reading;;) {
+        logbook_item found = logbook_step(buf, ROOM, MORNING, reading).item;
+        if (found.kind == LOGBOOK_END) break;
+        move_on(buf, &slow, LOGBOOK_SIZE_HELD, found.place);
+        move_on(buf, &slow, LOGBOOK_TYPE_HELD, found.place);
+        item = move_on(buf, &slow, found.kind, found.place);
+        reading = logbook_step(buf, ROOM, MORNING, reading).reading;
+        CHECK(memcmp(&item, &found, sizeof item) == 0 && memcmp(&slow.reading, &reading, sizeof reading) == 0);
+    }
+    logbook_slow last = slow;
+    move_on(buf, &slow, LOGBOOK_END, MORNING);
+    CHECK(memcmp(&last, &slow, sizeof last) == 0 && slow.reading.count == 5);
+}
+
+/* Erases between moves: before the type is taken the shot is deleted, behind it it is shown all the same. */
+static void erase_between_moves(const uint8_t *morning) {
+    uint8_t buf[ROOM];
+    logbook_slow at_shot = logbook_slow_fresh();
+    for (int moves = 0; moves < 4; moves++) at_shot = logbook_move(morning, ROOM, MORNING, at_shot).slow;
+    CHECK(at_shot.reading.position == 123);
+
+    memcpy(buf, morning, ROOM);
+    logbook_slow slow = at_shot;
+    move_on(buf, &slow, LOGBOOK_SIZE_HELD, 123);
+    CHECK(logbook_erase(buf, ROOM, MORNING, 123).refusal == LOGBOOK_DONE);
+    CHECK(logbook_wipe(buf, ROOM, MORNING, 123, SIZE_MAX).stores == 3);
+    logbook_item item = move_on(buf, &slow, LOGBOOK_DELETED, 123);
+    CHECK(item.type_place == 124 && item.data_length == 3 && slow.reading.position == 127 && holds(&slow, 0, 0, 0, 0));
+
+    memcpy(buf, morning, ROOM);
+    slow = at_shot;
+    move_on(buf, &slow, LOGBOOK_SIZE_HELD, 123);
+    move_on(buf, &slow, LOGBOOK_TYPE_HELD, 123);
+    CHECK(logbook_erase(buf, ROOM, MORNING, 123).refusal == LOGBOOK_DONE && buf[124] == 0);
+    item = move_on(buf, &slow, LOGBOOK_ENTRY, 123);
+    CHECK(is_entry(buf, item, 3, "urn:ep:2010", 2) && memcmp(buf + item.data_place, "P7", 2) == 0);
+}
+
+/* Whether a move of this reading is refused with 13 and hands it back. */
+static int is_outside(const uint8_t *buf, logbook_slow slow) {
+    logbook_move_result result = logbook_move(buf, ROOM, MORNING, slow);
+    return result.item.kind == LOGBOOK_REFUSED && REFUSED(result.item, LOGBOOK_NOT_FITTING, 0) &&
+           memcmp(&result.slow, &slow, sizeof slow) == 0;
+}
+
+/* What is held doesn't fit: one number off at a time. */
+static void outside_moves(const uint8_t *buf) {
+    logbook_slow typed = logbook_slow_fresh(), sized, wrong;
+    for (int moves = 0; moves < 5; moves++) typed = logbook_move(buf, ROOM, MORNING, typed).slow;
+    sized = typed;
+    typed = logbook_move(buf, ROOM, MORNING, typed).slow;
+    CHECK(holds(&sized, 124, 127, 0, 0) && holds(&typed, 124, 127, 2, 125));
+    const size_t type_places[] = {0, 123, 127, 128, SIZE_MAX}, ends[] = {0, 124, MORNING + 1, SIZE_MAX};
+    const size_t data_places[] = {0, 124, 128, SIZE_MAX};
+    const uint64_t numbers[] = {0, 3, UINT64_MAX};
+    for (size_t i = 0; i < 5; i++) CHECK((wrong = sized, wrong.type_place = type_places[i], is_outside(buf, wrong)));
+    for (size_t i = 0; i < 4; i++) CHECK((wrong = sized, wrong.end = ends[i], is_outside(buf, wrong)));
+    for (size_t i = 0; i < 3; i++) CHECK((wrong = typed, wrong.number = numbers[i], is_outside(buf, wrong)));
+    for (size_t i = 0; i < 4; i++) CHECK((wrong = typed, wrong.data_place = data_places[i], is_outside(buf, wrong)));
+    CHECK((wrong = sized, wrong.number = 2, is_outside(buf, wrong)));
+    CHECK((wrong = sized, wrong.data_place = 125, is_outside(buf, wrong)));
+    wrong = logbook_slow_fresh();
+    wrong.type_place = 1;
+    wrong.end = LOGBOOK_HEADER_LENGTH;
+    CHECK(is_outside(buf, wrong));
+    CHECK(REFUSED(logbook_move(buf, MORNING, ROOM, sized).item, LOGBOOK_USED_LENGTH, 0));
 }
 
 /* Lists a file with this room for a piece; whether its text is this one. */
@@ -470,6 +575,7 @@ static void null_pointers(uint8_t *buf) {
     CHECK(REFUSED(logbook_erase(NULL, 0, 0, 0), LOGBOOK_INCOMPLETE, 0));
     CHECK(REFUSED(logbook_wipe(NULL, 0, 0, 0, 1), LOGBOOK_INCOMPLETE, 0));
     CHECK(REFUSED(logbook_step(NULL, 0, 0, logbook_fresh()).item, LOGBOOK_INCOMPLETE, 0));
+    CHECK(REFUSED(logbook_move(NULL, 0, 0, logbook_slow_fresh()).item, LOGBOOK_INCOMPLETE, 0));
     CHECK(lists(NULL, 0, sizeof out, "refused\t2\t0\n"));
     logbook_listed listed = logbook_list(logbook_fresh(), buf, MORNING, NULL, 0);
     CHECK(listed.length == 0 && listed.over == 0);
@@ -486,8 +592,11 @@ int main(void) {
     uint8_t buf[ROOM];
     write_morning(buf);
     read_morning(buf);
+    move_morning(buf);
+    erase_between_moves(buf);
     list_morning(buf);
     outside(buf);
+    outside_moves(buf);
     refusals(buf);
     wipe_morning(buf);
     refusals(buf);

@@ -32,3 +32,7 @@ pub use record::tell;
 pub use register::Register;
 pub use register::Row;
 pub use register::uri_of;
+pub use slow::Held;
+pub use slow::Move;
+pub use slow::Outcome;
+pub use slow::Slow;

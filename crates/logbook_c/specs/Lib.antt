@@ -1,3 +1,4 @@
 pub mod Answers
 pub mod Items
 pub mod Shifts
+pub mod Moves

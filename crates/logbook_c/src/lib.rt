@@ -5,6 +5,7 @@ ghost use lib.ListN.{length};
 ghost use Rattle.format.specs.Reading as Format;
 ghost use Rattle.format.specs.Calls as Calls;
 ghost use Rattle.format.specs.Epochs as Epochs;
+ghost use Rattle.format.specs.Moves.{freshSlow};
 ghost use Rattle.register.specs.Tables.{rowOf};
 ghost use Rattle.record.specs.Items.{refusalOf};
 ghost use Rattle.appending.specs.Starts.{startedOf};
@@ -12,12 +13,14 @@ ghost use Rattle.appending.specs.Appendings.{appendedOf};
 ghost use Rattle.erasing.specs.Erases.{erasedOf};
 ghost use Rattle.erasing.specs.Wipes.{wipedOf};
 ghost use Rattle.reading.specs.Readings.{readingOf};
+ghost use Rattle.slow.specs.Moving.{slowOf};
 ghost use Rattle.listing.specs.Filling.{fillOf};
 ghost use Rattle.epoch.specs.Answers.{tripleOf};
 ghost use Rattle.logbook_c.specs.Answers.{startedAs, appendedAs, erasedAs, wipedAs, Starts, Appends, Keeps};
 ghost use Rattle.logbook_c.specs.Shifts.{refusedShift, shiftedFrom, shiftedAs};
 ghost use Rattle.logbook_c.specs.Items.{readingFrom, rowAs, bareAs, deletedAs, liveAs, assignmentAs, refusedAs, itemAs};
 ghost use Rattle.logbook_c.specs.Items.{BoundedEntry, Bounded, Steps, rowFrom, uriAs, flagOf, Lists};
+ghost use Rattle.logbook_c.specs.Moves.{slowFrom, outcomeAs, BoundedOutcome, MovesOn};
 use appending::Appended;
 use appending::Started;
 use epoch::Motion;
@@ -37,6 +40,9 @@ use register::Column;
 use register::Numbers;
 use register::Register;
 use register::Row;
+use slow::Held;
+use slow::Outcome;
+use slow::Slow;
 
 #[repr(C)]
 pub struct LogbookStarted {
@@ -100,6 +106,21 @@ pub struct LogbookItem {
 pub struct LogbookStep {
     pub item: LogbookItem,
     pub reading: LogbookReading,
+}
+
+#[repr(C)]
+pub struct LogbookSlow {
+    pub reading: LogbookReading,
+    pub type_place: usize,
+    pub end: usize,
+    pub number: u64,
+    pub data_place: usize,
+}
+
+#[repr(C)]
+pub struct LogbookMove {
+    pub item: LogbookItem,
+    pub slow: LogbookSlow,
 }
 
 #[repr(C)]
@@ -424,6 +445,68 @@ pub extern "C" fn logbook_step(buf: &[u8], used: usize, reading: LogbookReading)
             places: register::places(&details),
             lengths: register::lengths(&details),
         },
+    }
+}
+
+fn slow_from(s: LogbookSlow) -> Slow
+    ensures { λ x. ⌜ x ≡ slowFrom s ⌝ }
+{
+    let reading = reading_from(s.reading);
+    let held = Held {
+        type_place: Place(s.type_place),
+        end: Place(s.end),
+        number: s.number,
+        data_place: Place(s.data_place),
+    };
+    Slow { reading, held }
+}
+
+fn slow_as(s: Slow) -> LogbookSlow
+    ensures { λ x. ⌜ slowFrom x ≡ s ⌝ }
+{
+    LogbookSlow {
+        reading: reading_as(s.reading),
+        type_place: s.held.type_place.0,
+        end: s.held.end.0,
+        number: s.held.number,
+        data_place: s.held.data_place.0,
+    }
+}
+
+#[no_mangle]
+pub extern "C" fn logbook_slow_fresh() -> LogbookSlow
+    ensures { λ r. ⌜ slowOf (slowFrom r) ≡ freshSlow ⌝ }
+{
+    slow_as(Slow::fresh())
+}
+
+// What a move at a position shows: an item that lies in a buffer, or that a size or a type is held.
+fn outcome_as(buf: &[u8], position: usize, outcome: Outcome) -> LogbookItem
+    requires { ⌜ BoundedOutcome (length (now buf)) outcome ⌝ }
+    ensures { λ x. ⌜ x ≡ outcomeAs position outcome ⌝ }
+{
+    match outcome {
+        Outcome::Item(item) => item_as(buf, item),
+        Outcome::Holds(held) => {
+            if (held.number == 0) & (held.data_place.0 == 0) {
+                return bare_item(7, 0, position);
+            }
+            bare_item(8, 0, position)
+        }
+    }
+}
+
+#[no_mangle]
+pub extern "C" fn logbook_move(buf: &[u8], used: usize, slow: LogbookSlow) -> LogbookMove
+    ensures { λ r. ⌜ MovesOn (now (buf .entry)) used slow r ⌝ }
+{
+    let position = slow.reading.position;
+    let s = slow_from(slow);
+    let m = s.move_on(buf, used);
+    let outcome = m.outcome;
+    LogbookMove {
+        item: outcome_as(buf, position, outcome),
+        slow: slow_as(m.slow),
     }
 }
 

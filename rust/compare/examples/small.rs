@@ -2,8 +2,9 @@
 //! allocation of just its length.
 
 use compare::files::{check, check_changes, demo};
-use compare::series::{Counts, Series};
+use compare::series::{Counts, Pace, Series};
 use compare::shifts;
+use compare::slow;
 use compare::tally::Tally;
 
 const SEED: u64 = 1;
@@ -28,15 +29,21 @@ fn main() {
     }
     let mut counts = Counts::default();
     for round in 0..100 {
-        Series::draw(SEED, round).check(&mut counts);
+        Series::draw(Pace::Steps, SEED, round).check(&mut counts);
+        Series::draw(Pace::Moves { premise: true }, SEED, round).check(&mut counts);
+    }
+    let mut alike = slow::Counts::default();
+    for round in 0..60 {
+        slow::round(SEED, round, &mut alike);
     }
     let mut shifted = shifts::Counts::default();
     for round in 0..5_000 {
         shifts::round(SEED, round, &mut shifted);
     }
     println!(
-        "{} calls compared, {} series in both orders, {shifted}",
+        "{} calls compared, {} series in both orders, {} items in moves, {shifted}",
         tally.calls(),
-        counts.series
+        counts.series,
+        alike.items
     );
 }

@@ -5,7 +5,7 @@ use crate::case::Case;
 use crate::hostile::{crafted, damaged, noise};
 use crate::pieces::*;
 use crate::random::Random;
-use crate::readings::outside;
+use crate::readings::{outside, outside_slow};
 use crate::requests::draw;
 use crate::sides::{is_live, theirs, Answer, Request};
 use crate::tally::Tally;
@@ -65,6 +65,10 @@ fn mixed(name: String, random: &mut Random, book: &Book, tally: &mut Tally) {
         read_through(&mut case, tally);
         case.track.reading = raw::fresh();
     }
+    if random.one_in(6) {
+        move_through(&mut case, tally);
+        case.track.slow = raw::slow_fresh();
+    }
     for _ in 0..REQUESTS {
         let (used, request) = draw(random, &case);
         case.ask(used, &request, tally);
@@ -89,7 +93,25 @@ pub fn read_through(case: &mut Case, tally: &mut Tally) -> Vec<raw::Reading> {
     }
 }
 
-/// Steps of readings that the logbook never gave.
+/// The same in moves.
+pub fn move_through(case: &mut Case, tally: &mut Tally) -> Vec<raw::Slow> {
+    let mut readings = vec![raw::slow_fresh()];
+    case.track.slow = raw::slow_fresh();
+    loop {
+        let request = Request::Move {
+            slow: Box::new(case.track.slow),
+        };
+        let Answer::Moved { moved, .. } = case.ask(case.track.used, &request, tally) else {
+            unreachable!("a move is answered by a move");
+        };
+        if matches!(moved.item.kind, raw::END | raw::REFUSED) {
+            return readings;
+        }
+        readings.push(moved.slow);
+    }
+}
+
+/// Steps and moves of readings that the logbook never gave.
 fn from_outside(name: String, random: &mut Random, tally: &mut Tally) {
     let items = random.between(2, 30);
     let book = match random.below(3) {
@@ -107,6 +129,24 @@ fn from_outside(name: String, random: &mut Random, tally: &mut Tally) {
             case.ask(case.track.used, &request, tally);
             request = Request::Step {
                 reading: Box::new(case.track.reading),
+            };
+        }
+    }
+    slow_from_outside(&mut case, random, tally);
+}
+
+/// The same in moves.
+fn slow_from_outside(case: &mut Case, random: &mut Random, tally: &mut Tally) {
+    let known = move_through(case, tally);
+    for _ in 0..2 * REQUESTS {
+        case.track.slow = random.pick(&known);
+        case.track.reading = case.track.slow.reading;
+        let slow = Box::new(outside_slow(random, case.buf(), &case.track));
+        let mut request = Request::Move { slow };
+        for _ in 0..random.pick(&[1, 1, 2, 4]) {
+            case.ask(case.track.used, &request, tally);
+            request = Request::Move {
+                slow: Box::new(case.track.slow),
             };
         }
     }

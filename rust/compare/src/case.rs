@@ -14,6 +14,8 @@ pub struct Track {
     pub used: usize,
     /// The reading that came back last.
     pub reading: raw::Reading,
+    /// The slow reading that came back last.
+    pub slow: raw::Slow,
     /// Places where items start or started.
     pub places: Vec<usize>,
     /// Places of plain entries that were appended or read.
@@ -28,6 +30,7 @@ impl Track {
         Track {
             used,
             reading: raw::fresh(),
+            slow: raw::slow_fresh(),
             places,
             entries: Vec::new(),
             erased: Vec::new(),
@@ -50,12 +53,21 @@ impl Track {
             }
             (_, Answer::Stepped { step, .. }) => {
                 self.reading = step.reading;
-                match step.item.kind {
-                    raw::ENTRY => self.entries.push(step.item.place),
-                    raw::DELETED => self.erased.push(step.item.place),
-                    _ => {}
-                }
+                self.see(&step.item);
             }
+            (_, Answer::Moved { moved, .. }) => {
+                self.slow = moved.slow;
+                self.see(&moved.item);
+            }
+            _ => {}
+        }
+    }
+
+    /// Goes on from an item.
+    fn see(&mut self, item: &raw::Item) {
+        match item.kind {
+            raw::ENTRY => self.entries.push(item.place),
+            raw::DELETED => self.erased.push(item.place),
             _ => {}
         }
     }
@@ -110,7 +122,10 @@ impl Case {
         tally.count(request.call(), answer.column(used));
         tally.great += u64::from(meets_great(&answer));
         self.track.take(request, &answer);
-        if !matches!(request, Request::Step { .. } | Request::List { .. }) {
+        if !matches!(
+            request,
+            Request::Step { .. } | Request::List { .. } | Request::Move { .. }
+        ) {
             self.before.copy_from_slice(&self.ours);
         }
         answer

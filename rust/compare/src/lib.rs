@@ -4,7 +4,7 @@
 //! [`books`] and [`hostile`] make logbooks, [`requests`] and [`readings`] make
 //! what is asked of them, [`sides`] asks both implementations in one form, and
 //! [`case`] compares what comes back. [`shifts`] does all of this for the shift,
-//! which takes no logbook. [`calls`], [`series`], [`files`] and [`shifts`] have
+//! which takes no logbook. [`calls`], [`series`], [`slow`], [`files`] and [`shifts`] have
 //! the runs that the tests and the example `small` share, [`records`] those of
 //! single records; [`shapes`] is for the benchmarks.
 //!
@@ -28,4 +28,5 @@ pub mod settings;
 pub mod shapes;
 pub mod shifts;
 pub mod sides;
+pub mod slow;
 pub mod tally;

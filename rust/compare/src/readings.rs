@@ -17,6 +17,68 @@ pub fn outside(random: &mut Random, buf: &[u8], track: &Track) -> raw::Reading {
     }
 }
 
+/// A slow reading from outside: what it holds is near the bounds of the fit, or anything.
+pub fn outside_slow(random: &mut Random, buf: &[u8], track: &Track) -> raw::Slow {
+    let mut slow = track.slow;
+    if random.one_in(4) {
+        slow.reading = outside(random, buf, track);
+    }
+    match random.below(4) {
+        0 => {
+            slow.type_place = edge(random, track.used);
+            slow.end = edge(random, track.used);
+            slow.number = number_edge(random);
+            slow.data_place = edge(random, track.used);
+        }
+        1 => one_held(random, track.used, &mut slow),
+        _ => near_bounds(random, track.used, &mut slow),
+    }
+    slow
+}
+
+/// One field of what is held changed.
+fn one_held(random: &mut Random, used: usize, slow: &mut raw::Slow) {
+    let field = match random.below(4) {
+        0 => {
+            slow.number = near_number(random, slow.number);
+            return;
+        }
+        1 => &mut slow.type_place,
+        2 => &mut slow.end,
+        _ => &mut slow.data_place,
+    };
+    *field = match random.below(4) {
+        0 => field.wrapping_add(1),
+        1 => field.wrapping_sub(1),
+        2 => 0,
+        _ => edge(random, used),
+    };
+}
+
+/// A size or a type held, each number of it at a bound of the fit or beside one.
+fn near_bounds(random: &mut Random, used: usize, slow: &mut raw::Slow) {
+    let past = |from: usize, by: usize| from.wrapping_add(by);
+    slow.type_place = past(slow.reading.position, random.pick(&[0, 1, 1, 2, 3, 4, 5]));
+    slow.end = match random.below(6) {
+        0 => past(slow.type_place, random.below(2)),
+        1 => past(used, random.below(2)),
+        _ => past(slow.type_place, random.below(20)).min(used),
+    };
+    (slow.number, slow.data_place) = (0, 0);
+    if random.one_in(3) {
+        return;
+    }
+    let held = slow.reading.held.clamp(1, raw::ROWS);
+    slow.number = slow.reading.numbers[random.below(held)];
+    if random.one_in(8) {
+        slow.number = near_number(random, slow.number);
+    }
+    slow.data_place = match random.below(6) {
+        0 => past(slow.end, random.below(2)),
+        _ => past(slow.type_place, random.pick(&[0, 1, 1, 2, 8, 9, 10])),
+    };
+}
+
 /// A place or a count at a bound.
 fn edge(random: &mut Random, used: usize) -> usize {
     let bounds = [

@@ -4,7 +4,7 @@ use crate::books::{data_length, long_uri, number, uri, URIS};
 use crate::case::{Case, Track};
 use crate::pieces::*;
 use crate::random::Random;
-use crate::readings::outside;
+use crate::readings::{outside, outside_slow};
 use crate::sides::Request;
 use logbook::raw;
 
@@ -14,9 +14,12 @@ const DATA_LIMIT: usize = 65_535;
 /// A request for this logbook, and the used length to hand in with it.
 pub fn draw(random: &mut Random, case: &Case) -> (usize, Request) {
     let used = used_length(random, case);
-    let request = match random.below(40) {
+    let request = match random.below(48) {
         0..=10 => Request::Step {
             reading: Box::new(reading(random, case)),
+        },
+        40.. => Request::Move {
+            slow: Box::new(slow(random, case)),
         },
         11 => Request::List {
             room: random.pick(&[320, 321, 700, 2_000]),
@@ -80,7 +83,7 @@ fn place(random: &mut Random, track: &Track, deleted: bool) -> usize {
         1 => random.pick(&[0, 1, 2, 108, 109, USED_LIMIT, usize::MAX - 1, usize::MAX]),
         2 => track.used.saturating_sub(random.below(3)),
         3 => track.used + random.below(3),
-        4 => track.reading.position,
+        4 => random.pick(&[track.reading.position, track.slow.reading.position]),
         _ if track.places.is_empty() => 0,
         5 => random.pick(&track.places).wrapping_add(1),
         6 => random.pick(&track.places).wrapping_sub(1),
@@ -105,6 +108,15 @@ fn reading(random: &mut Random, case: &Case) -> raw::Reading {
         0..=7 => case.track.reading,
         8 => raw::fresh(),
         _ => outside(random, case.buf(), &case.track),
+    }
+}
+
+/// The slow reading that came back last, a fresh one, or one from outside.
+fn slow(random: &mut Random, case: &Case) -> raw::Slow {
+    match random.below(16) {
+        0..=12 => case.track.slow,
+        13 => raw::slow_fresh(),
+        _ => outside_slow(random, case.buf(), &case.track),
     }
 }
 

@@ -1,17 +1,27 @@
-//! Demand 3 on the compiled library: a series of calls and steps in two orders.
+//! Demand 3 on the compiled library: a series of calls and steps, or moves, in two orders.
 
 use crate::books::Book;
 use crate::case::{hex, Track};
 use crate::hostile::damaged;
 use crate::random::Random;
 use crate::requests::writing;
-use crate::sides::{ours, Answer, Request};
+use crate::sides::{is_live, ours, Answer, Request};
 use logbook::raw;
 
-/// One event of a series. A step is one of the series' own reading.
+/// How the reading of a series goes.
+#[derive(Clone, Copy, PartialEq, Debug)]
+pub enum Pace {
+    /// By steps.
+    Steps,
+    /// Slowly, by moves. Where the premise of 02 [9] is kept, no call stores in a record whose type
+    /// is taken and whose data isn't, by a wipe.
+    Moves { premise: bool },
+}
+
+/// One event of a series. A step, or a move, is one of the series' own reading.
 #[derive(Clone, Debug)]
 pub enum Event {
-    /// A step.
+    /// A step, or a move.
     Step,
     /// Any other call, with its request.
     Call(Request),
@@ -28,17 +38,29 @@ pub enum Sort {
     Late,
 }
 
-/// Sorts an event by the reading's position at it, and whether its first end has come.
-pub type Sorter = fn(&Event, usize, bool) -> Sort;
+/// Where the reading of a series stands.
+#[derive(Clone, Copy, Debug)]
+pub struct Stand {
+    /// Its position.
+    pub position: usize,
+    /// It is a slow one and holds the size of the record there.
+    pub sized: bool,
+    /// It holds the type too.
+    pub typed: bool,
+}
+
+/// Sorts an event by where the reading stands at it, and whether its first end has come.
+pub type Sorter = fn(&Event, Stand, bool) -> Sort;
 
 /// 00, demand 3: until the first end a step reads, an erase or wipe aimed at
-/// a passed place is late, every other call is early; then all is late.
-pub fn as_demanded(event: &Event, position: usize, ended: bool) -> Sort {
+/// a passed place is late, every other call is early; then all is late. With 02 [9] the
+/// position itself is passed once the type there is taken.
+pub fn as_demanded(event: &Event, stand: Stand, ended: bool) -> Sort {
     match event {
         _ if ended => Sort::Late,
         Event::Step => Sort::Reading,
         Event::Call(Request::Erase { place } | Request::Wipe { place, .. })
-            if *place < position =>
+            if *place < stand.position || stand.typed && *place == stand.position =>
         {
             Sort::Late
         }
@@ -49,14 +71,50 @@ pub fn as_demanded(event: &Event, position: usize, ended: bool) -> Sort {
 /// A buffer of the library alone.
 #[derive(Clone)]
 struct State {
+    pace: Pace,
     buf: Box<[u8]>,
     track: Track,
 }
 
 impl State {
+    fn stand(&self) -> Stand {
+        let slow = &self.track.slow;
+        match self.pace {
+            Pace::Steps => Stand {
+                position: self.track.reading.position,
+                sized: false,
+                typed: false,
+            },
+            Pace::Moves { .. } => Stand {
+                position: slow.reading.position,
+                sized: slow.type_place != 0,
+                typed: slow.number != 0,
+            },
+        }
+    }
+
+    /// Whether 02 [9]'s premise shuts the call out: a wipe that stores in a record whose type
+    /// is taken and whose data isn't.
+    fn is_shut_out(&self, request: &Request) -> bool {
+        let stand = self.stand();
+        match request {
+            Request::Wipe { place, .. } if stand.typed && *place == stand.position => {
+                let mut buf = self.buf.clone();
+                ours(&mut buf, self.track.used, request);
+                buf != self.buf
+            }
+            _ => false,
+        }
+    }
+
     fn take(&mut self, event: &Event) -> Answer {
-        let step = Request::Step {
-            reading: Box::new(self.track.reading),
+        let step = match self.pace {
+            Pace::Steps => Request::Step {
+                reading: Box::new(self.track.reading),
+            },
+            Pace::Moves { .. } => Request::Move {
+                slow: Box::new(self.track.slow),
+            },
         };
         let request = match event {
             Event::Step => &step,
@@ -83,12 +141,28 @@ impl State {
     }
 }
 
-/// The kind of a step's item.
+/// The kind of a step's or a move's item.
 fn kind_of(answer: &Answer) -> Option<usize> {
     match answer {
         Answer::Stepped { step, .. } => Some(step.item.kind),
+        Answer::Moved { moved, .. } => Some(moved.item.kind),
         _ => None,
     }
+}
+
+/// A live entry that a move shows, with the bytes of its URI and data.
+type Line<'a> = (&'a raw::Item, &'a [u8], &'a [u8]);
+
+/// The live entries among the answers: the list of a slow reading.
+fn lines<'a>(answers: impl Iterator<Item = &'a Answer>) -> Vec<Line<'a>> {
+    answers
+        .filter_map(|answer| match answer {
+            Answer::Moved { moved, uri, data } if is_live(&moved.item) => {
+                Some((&moved.item, &uri[..], &data[..]))
+            }
+            _ => None,
+        })
+        .collect()
 }
 
 /// A series as it came, with all that was answered.
@@ -96,8 +170,8 @@ pub struct Series {
     name: String,
     before: State,
     events: Vec<Event>,
-    /// The reading's position at each event.
-    positions: Vec<usize>,
+    /// Where the reading stands at each event.
+    stands: Vec<Stand>,
     answers: Vec<Answer>,
     /// Which event brought the first end.
     end: Option<usize>,
@@ -121,6 +195,10 @@ pub struct Counts {
     pub refused: u64,
     /// Erases and wipes done at a place that the reading had passed, before its end.
     pub passed: u64,
+    /// Erases and wipes done to a record of which a slow reading held the size alone.
+    pub sized: u64,
+    /// Erases done to a record of which a slow reading held the type.
+    pub typed: u64,
 }
 
 impl Counts {
@@ -133,36 +211,59 @@ impl Counts {
         self.late += other.late;
         self.refused += other.refused;
         self.passed += other.passed;
+        self.sized += other.sized;
+        self.typed += other.typed;
     }
 }
 
 impl Series {
-    /// A series of 5 to 60 events over a logbook that reads to its end, run as it comes.
-    pub fn draw(seed: u64, round: usize) -> Series {
+    /// A series of 5 to 60 events, by moves 10 to 120, over a logbook that reads to its end, run as
+    /// it comes.
+    pub fn draw(pace: Pace, seed: u64, round: usize) -> Series {
         let random = &mut Random::new(seed, round);
-        let before = readable(random);
+        let before = readable(random, pace);
         let mut series = Series {
-            name: format!("series, seed {seed}, round {round}"),
+            name: format!("series by {pace:?}, seed {seed}, round {round}"),
             after: before.clone(),
             before,
             events: Vec::new(),
-            positions: Vec::new(),
+            stands: Vec::new(),
             answers: Vec::new(),
             end: None,
         };
-        let pace = random.pick(&[15, 40, 60, 85]);
-        for _ in 0..random.between(5, 60) {
+        let often = random.pick(&[15, 40, 60, 85]);
+        let events = match pace {
+            Pace::Steps => random.between(5, 60),
+            Pace::Moves { .. } => random.between(10, 120),
+        };
+        for _ in 0..events {
             let event = match random.below(100) {
-                chance if chance < pace => Event::Step,
-                _ => Event::Call(writing(random, &series.after.track)),
+                chance if chance < often => Event::Step,
+                _ => Event::Call(series.call(random)),
             };
             series.run(event);
         }
         series
     }
 
+    /// The next call: any but what the premise shuts out; among moves often one that is aimed at the
+    /// record in work.
+    fn call(&self, random: &mut Random) -> Request {
+        let state = &self.after;
+        let stand = state.stand();
+        let request = match stand.sized && random.one_in(2) {
+            true => aimed(random, stand.position),
+            false => writing(random, &state.track),
+        };
+        let premise = state.pace == Pace::Moves { premise: true };
+        match premise && self.end.is_none() && state.is_shut_out(&request) {
+            true => self.call(random),
+            false => request,
+        }
+    }
+
     fn run(&mut self, event: Event) {
-        self.positions.push(self.after.track.reading.position);
+        self.stands.push(self.after.stand());
         let answer = self.after.take(&event);
         if self.end.is_none() && kind_of(&answer) == Some(raw::END) {
             self.end = Some(self.events.len());
@@ -174,9 +275,9 @@ impl Series {
     /// How each event is sorted.
     fn sorts(&self, sorter: Sorter) -> Vec<Sort> {
         let ended = |index| self.end.is_some_and(|end| index > end);
-        let events = self.events.iter().zip(&self.positions).enumerate();
+        let events = self.events.iter().zip(&self.stands).enumerate();
         events
-            .map(|(index, (event, &position))| sorter(event, position, ended(index)))
+            .map(|(index, (event, &stand))| sorter(event, stand, ended(index)))
             .collect()
     }
 
@@ -209,11 +310,14 @@ impl Series {
     }
 
     /// The steps up to the first end against those of the undisturbed reading;
-    /// where no end came, against the beginning of these.
+    /// where no end came, against the beginning of these. Of moves, the live entries.
     fn compare_list(&self, list: &[Answer], sorts: &[Sort]) -> Result<(), String> {
         let steps: Vec<usize> = (0..sorts.len())
             .filter(|&index| sorts[index] == Sort::Reading)
             .collect();
+        if self.before.pace != Pace::Steps {
+            return self.compare_lines(list, &steps);
+        }
         if steps.len() > list.len() || (self.end.is_some() && steps.len() != list.len()) {
             return Err(format!("the list has {} items", list.len()));
         }
@@ -223,6 +327,23 @@ impl Series {
             }
         }
         Ok(())
+    }
+
+    /// The live entries of these moves, none of which may be refused, against those of the list.
+    fn compare_lines(&self, list: &[Answer], moves: &[usize]) -> Result<(), String> {
+        let answers = || moves.iter().map(|&index| &self.answers[index]);
+        if let Some(refused) = answers().find(|answer| kind_of(answer) == Some(raw::REFUSED)) {
+            return Err(format!("a move is refused: {refused:?}"));
+        }
+        let (here, whole) = (lines(answers()), lines(list.iter()));
+        let same = match self.end {
+            Some(_) => here == whole,
+            None => whole.starts_with(&here),
+        };
+        match same {
+            true => Ok(()),
+            false => Err(format!("the list is {whole:?}, here {here:?}")),
+        }
     }
 
     /// Compares both orders as demanded; a difference is printed whole and ends the run.
@@ -251,12 +372,36 @@ impl Series {
             counts.late += u64::from(sort == Sort::Late);
             counts.refused += u64::from(refused);
             counts.passed += u64::from(sort == Sort::Late && !ended && !refused);
+            let stand = self.stands[index];
+            let aimed = match &self.events[index] {
+                Event::Call(Request::Erase { place } | Request::Wipe { place, .. }) => {
+                    *place == stand.position && !ended && !refused
+                }
+                _ => false,
+            };
+            counts.sized += u64::from(aimed && stand.sized && !stand.typed);
+            counts.typed += u64::from(aimed && stand.typed);
         }
     }
 }
 
+/// An erase or a wipe of the record at a place, or of one that doesn't start there.
+fn aimed(random: &mut Random, place: usize) -> Request {
+    let place = match random.below(8) {
+        0 => place + random.between(1, 6),
+        _ => place,
+    };
+    match random.below(3) {
+        0 => Request::Erase { place },
+        _ => Request::Wipe {
+            place,
+            limit: random.pick(&[0, 1, 1, 1, 2, 5, usize::MAX]),
+        },
+    }
+}
+
 /// A logbook that reads to its end, a damaged one at times, with room behind it.
-fn readable(random: &mut Random) -> State {
+fn readable(random: &mut Random, pace: Pace) -> State {
     let items = random.below(14);
     let book = match random.below(4) {
         0 => damaged(random, items),
@@ -264,11 +409,12 @@ fn readable(random: &mut Random) -> State {
     };
     let slack = random.pick(&[0, 10, 60, 300, 1_000]);
     let state = State {
+        pace,
         buf: [book.bytes.clone(), random.bytes(slack)].concat().into(),
         track: Track::new(book.bytes.len(), book.places),
     };
     match state.clone().read_to_end() {
         Ok(_) => state,
-        Err(_) => readable(random),
+        Err(_) => readable(random, pace),
     }
 }

@@ -26,6 +26,8 @@ pub enum Request {
     Step { reading: Box<raw::Reading> },
     /// List the used bytes as a file, in pieces of that many bytes (at least 320).
     List { room: usize },
+    /// Take the next part of one item.
+    Move { slow: Box<raw::Slow> },
 }
 
 impl Request {
@@ -39,6 +41,7 @@ impl Request {
             Request::Wipe { .. } => 4,
             Request::Step { .. } => 5,
             Request::List { .. } => 6,
+            Request::Move { .. } => 7,
         }
     }
 }
@@ -62,6 +65,12 @@ pub enum Answer {
     },
     /// Of a listing: its whole text.
     Listed(Vec<u8>),
+    /// Of a move, with a live entry's URI and data as they are now.
+    Moved {
+        moved: Box<raw::Moved>,
+        uri: Vec<u8>,
+        data: Vec<u8>,
+    },
 }
 
 impl Answer {
@@ -82,6 +91,7 @@ impl Answer {
             Answer::Wiped(answer) => (answer.refusal, answer.place),
             Answer::Stepped { step, .. } => (step.item.refusal, step.item.place),
             Answer::Listed(text) => listed_refusal(text),
+            Answer::Moved { moved, .. } => (moved.item.refusal, moved.item.place),
         }
     }
 }
@@ -112,6 +122,7 @@ pub fn ours(buf: &mut [u8], used: usize, request: &Request) -> Answer {
         Request::Wipe { place, limit } => Answer::Wiped(raw::wipe(buf, used, *place, *limit)),
         Request::Step { reading } => our_step(buf, used, reading),
         Request::List { room } => Answer::Listed(our_listing(file(buf, used), *room)),
+        Request::Move { slow } => our_move(buf, used, slow),
     }
 }
 
@@ -131,6 +142,7 @@ pub fn theirs(buf: &mut [u8], used: usize, request: &Request) -> Answer {
         }
         Request::Step { reading } => their_step(buf, used, reading),
         Request::List { .. } => Answer::Listed(reader::listing(file(buf, used))),
+        Request::Move { slow } => their_move(buf, used, slow),
     }
 }
 
@@ -157,13 +169,25 @@ pub fn is_live(item: &raw::Item) -> bool {
 /// A step of the library, with the URI and data of a live entry.
 pub fn our_step(buf: &[u8], used: usize, reading: &raw::Reading) -> Answer {
     let step = Box::new(raw::step(buf, used, *reading));
-    let item = &step.item;
-    let (mut uri, mut data) = (Vec::new(), Vec::new());
-    if is_live(item) {
-        uri.extend_from_slice(our_uri(buf, used, item.row).unwrap_or(b"(refused)"));
-        data.extend_from_slice(&buf[item.data_place..item.data_place + item.data_length]);
-    }
+    let (uri, data) = live_parts(buf, used, &step.item);
     Answer::Stepped { step, uri, data }
+}
+
+/// A move of the library, with the URI and data of a live entry.
+pub fn our_move(buf: &[u8], used: usize, slow: &raw::Slow) -> Answer {
+    let moved = Box::new(raw::move_on(buf, used, *slow));
+    let (uri, data) = live_parts(buf, used, &moved.item);
+    Answer::Moved { moved, uri, data }
+}
+
+/// The URI and data of a live entry, none of any other item.
+fn live_parts(buf: &[u8], used: usize, item: &raw::Item) -> (Vec<u8>, Vec<u8>) {
+    if !is_live(item) {
+        return (Vec::new(), Vec::new());
+    }
+    let uri = our_uri(buf, used, item.row).unwrap_or(b"(refused)");
+    let data = &buf[item.data_place..item.data_place + item.data_length];
+    (uri.to_vec(), data.to_vec())
 }
 
 /// The library's listing, joined from pieces of at most `room` bytes.
@@ -258,34 +282,130 @@ pub fn from_theirs(theirs: &reader::Reading) -> raw::Reading {
 /// A step of the independent reader, in the library's structs.
 fn their_step(buf: &[u8], used: usize, reading: &raw::Reading) -> Answer {
     let (answer, next) = to_theirs(reading).step(buf, used);
-    let (mut live_uri, mut live_data) = (Vec::new(), Vec::new());
+    let (uri, data) = answer.as_ref().map(their_parts).unwrap_or_default();
     let item = match answer {
-        Err(refused) => raw::Item {
-            refusal: usize::from(refused.number),
-            ..plain_item(raw::REFUSED, refused.place)
-        },
-        Ok(reader::Item::Padding { place }) => plain_item(raw::PADDING, place),
-        Ok(reader::Item::End { place }) => plain_item(raw::END, place),
-        Ok(reader::Item::Deleted { place }) => {
-            let (size, width) = integer(&buf[place..]);
-            raw::Item {
-                type_place: place + width,
-                data_place: place + width,
-                data_length: size as usize,
-                ..plain_item(raw::DELETED, place)
-            }
-        }
-        Ok(entry @ reader::Item::Entry { uri, data, .. }) => {
-            live_uri.extend_from_slice(uri);
-            live_data.extend_from_slice(data);
-            entry_item(buf, reading, entry)
-        }
+        Err(refused) => refused_item(refused),
+        Ok(item) => their_item(reading, |place| frame_at(buf, place), item),
     };
     let reading = from_theirs(&next);
     Answer::Stepped {
         step: Box::new(raw::Step { item, reading }),
-        uri: live_uri,
-        data: live_data,
+        uri,
+        data,
+    }
+}
+
+/// A slow reading as the library has it.
+fn slow_from_theirs(theirs: &reader::SlowReading) -> raw::Slow {
+    raw::Slow {
+        reading: from_theirs(&theirs.reading),
+        type_place: theirs.type_place,
+        end: theirs.end,
+        number: theirs.number,
+        data_place: theirs.data_place,
+    }
+}
+
+/// A move of the independent reader, in the library's structs. What a size or a type says
+/// is what the reading then holds.
+fn their_move(buf: &[u8], used: usize, slow: &raw::Slow) -> Answer {
+    let before = reader::SlowReading {
+        reading: to_theirs(&slow.reading),
+        type_place: slow.type_place,
+        end: slow.end,
+        number: slow.number,
+        data_place: slow.data_place,
+    };
+    let (answer, next) = before.move_on(buf, used);
+    let next = slow_from_theirs(&next);
+    let position = slow.reading.position;
+    let (mut uri, mut data) = (Vec::new(), Vec::new());
+    let item = match answer {
+        Err(refused) => refused_item(refused),
+        Ok(reader::Moved::Size { type_place, end }) => {
+            assert_eq!((type_place, end), (next.type_place, next.end));
+            plain_item(raw::SIZE_HELD, position)
+        }
+        Ok(reader::Moved::Type {
+            number, data_place, ..
+        }) => {
+            assert_eq!((number, data_place), (next.number, next.data_place));
+            plain_item(raw::TYPE_HELD, position)
+        }
+        Ok(reader::Moved::Item(item)) => {
+            (uri, data) = their_parts(&item);
+            let held = |place| match slow.type_place {
+                0 => frame_at(buf, place),
+                type_place => Frame {
+                    type_place,
+                    end: slow.end,
+                    number: slow.number,
+                },
+            };
+            their_item(&slow.reading, held, item)
+        }
+    };
+    Answer::Moved {
+        moved: Box::new(raw::Moved { item, slow: next }),
+        uri,
+        data,
+    }
+}
+
+/// Where a record's type and end are, and its type.
+struct Frame {
+    type_place: usize,
+    end: usize,
+    number: u64,
+}
+
+/// As the bytes at a place have it.
+fn frame_at(buf: &[u8], place: usize) -> Frame {
+    let (size, width) = integer(&buf[place..]);
+    let type_place = place + width;
+    Frame {
+        type_place,
+        end: type_place + size as usize,
+        number: integer(&buf[type_place..]).0,
+    }
+}
+
+/// The URI and data of a live entry, none of any other item.
+fn their_parts(item: &reader::Item<'_>) -> (Vec<u8>, Vec<u8>) {
+    match item {
+        reader::Item::Entry { uri, data, .. } => (uri.to_vec(), data.to_vec()),
+        _ => (Vec::new(), Vec::new()),
+    }
+}
+
+/// An item in the library's struct; the frame is that of the record at its place.
+fn their_item(
+    reading: &raw::Reading,
+    frame: impl FnOnce(usize) -> Frame,
+    item: reader::Item<'_>,
+) -> raw::Item {
+    match item {
+        reader::Item::Padding { place } => plain_item(raw::PADDING, place),
+        reader::Item::End { place } => plain_item(raw::END, place),
+        reader::Item::Deleted { place } => {
+            let Frame {
+                type_place, end, ..
+            } = frame(place);
+            raw::Item {
+                type_place,
+                data_place: type_place,
+                data_length: end - type_place,
+                ..plain_item(raw::DELETED, place)
+            }
+        }
+        reader::Item::Entry { place, .. } => entry_item(reading, frame(place), item),
+    }
+}
+
+fn refused_item(refused: reader::Refusal) -> raw::Item {
+    raw::Item {
+        refusal: usize::from(refused.number),
+        ..plain_item(raw::REFUSED, refused.place)
     }
 }
 
@@ -310,7 +430,7 @@ fn plain_item(kind: usize, place: usize) -> raw::Item {
 }
 
 /// A live entry in the library's struct.
-fn entry_item(buf: &[u8], reading: &raw::Reading, entry: reader::Item<'_>) -> raw::Item {
+fn entry_item(reading: &raw::Reading, frame: Frame, entry: reader::Item<'_>) -> raw::Item {
     let reader::Item::Entry {
         place,
         number,
@@ -322,13 +442,12 @@ fn entry_item(buf: &[u8], reading: &raw::Reading, entry: reader::Item<'_>) -> ra
     else {
         unreachable!("only live entries come here");
     };
-    let type_place = place + integer(&buf[place..]).1;
     let mut item = raw::Item {
         number,
-        type_place,
+        type_place: frame.type_place,
         data_place,
         data_length: data.len(),
-        row: row_of(reading, integer(&buf[type_place..]).0),
+        row: row_of(reading, frame.number),
         ..plain_item(raw::ENTRY, place)
     };
     match kind {

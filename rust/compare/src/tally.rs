@@ -3,7 +3,9 @@
 use std::fmt;
 
 /// The calls, in the order of a tally's rows.
-pub const CALLS: [&str; 7] = ["start", "append", "assign", "erase", "wipe", "step", "list"];
+pub const CALLS: [&str; 8] = [
+    "start", "append", "assign", "erase", "wipe", "step", "list", "move",
+];
 /// The column of a 7 that is due to the request; 7 itself is one of the walk.
 pub const FULL_FOR_REQUEST: usize = 17;
 /// Column 0 is a result, 1 to 16 are the refusals of these calls; 4 was withdrawn.

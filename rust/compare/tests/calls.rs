@@ -9,7 +9,7 @@ const ROUNDS: usize = 54_000;
 const CALLS_AT_LEAST: u64 = 2_000_000;
 
 /// 01, "Refusals and their order", with 02 [1]: what each call can come to, 0 for its result.
-/// A step looks at its own item only, the walk knows 2 to 7 (4 was withdrawn) and 14 to 16.
+/// A step or a move looks at its own item only, the walk knows 2 to 7 (4 was withdrawn) and 14 to 16.
 fn can_occur(call: &str) -> Vec<usize> {
     let walk = [0, 1, 2, 3, 5, 6, 7, 14, 15, 16];
     match call {
@@ -17,7 +17,7 @@ fn can_occur(call: &str) -> Vec<usize> {
         "append" | "assign" => [&walk[..], &[10, 11, 12, FULL_FOR_REQUEST]].concat(),
         "erase" => [&walk[..], &[8, 9]].concat(),
         "wipe" => [&walk[..], &[8]].concat(),
-        "step" => [&walk[..], &[13]].concat(),
+        "step" | "move" => [&walk[..], &[13]].concat(),
         "list" => walk.to_vec(),
         _ => unreachable!("{call} is no call"),
     }

@@ -3,8 +3,9 @@
 //! A logbook is a sequence of records in a buffer that the caller lends. Each record has a type
 //! number, and the number means the URI that the latest assignment before the record gives it.
 //! [`Logbook`] starts a logbook or takes one up, appends entries by URI, assigns type numbers,
-//! erases entries and wipes what is left of them; [`items`], [`entries`] and [`Reading`] read one;
-//! [`listing`] lists one as text; [`shift()`] moves a shot to another epoch.
+//! erases entries and wipes what is left of them; [`items`], [`entries`] and [`Reading`] read one,
+//! [`SlowReading`] in three moves a record; [`listing`] lists one as text; [`shift()`] moves a shot
+//! to another epoch.
 //!
 //! ```
 //! use logbook::{Logbook, Place, Refusal};
@@ -49,6 +50,7 @@ pub mod raw;
 mod reading;
 mod refusal;
 mod shift;
+mod slow;
 
 pub use listing::{listing, write_listing, Listing};
 pub use log::Logbook;
@@ -56,6 +58,7 @@ pub use raw::{Motion, Point, Triple};
 pub use reading::{check, entries, items, Entry, Item, Items, Kind, Reading, Summary};
 pub use refusal::Refusal;
 pub use shift::{shift, Epoch, ParseEpochError, Shifted};
+pub use slow::{SizeHeld, SlowReading, Taken, TypeHeld};
 
 use std::fmt;
 

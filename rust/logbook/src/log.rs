@@ -1,7 +1,7 @@
 //! A logbook in a lent buffer.
 
 use crate::refusal::judged;
-use crate::{raw, reading, Entry, Item, Items, Place, Reading, Refusal};
+use crate::{raw, reading, Entry, Item, Items, Place, Reading, Refusal, SlowReading, Taken};
 use std::iter::FusedIterator;
 
 /// A logbook in a lent buffer: its first [`used`](Logbook::used) bytes belong to the logbook.
@@ -215,6 +215,19 @@ impl<'a> Logbook<'a> {
     /// Those of [`Reading::step`].
     pub fn step(&self, reading: &Reading) -> Result<Option<(Item<'_>, Reading)>, Refusal> {
         reading.step(self.buf, self.used)
+    }
+
+    /// Takes the next part of the item at a slow reading's position: [`SlowReading::move_on`] of
+    /// this logbook.
+    ///
+    /// # Errors
+    ///
+    /// Those of [`SlowReading::move_on`].
+    pub fn move_on(
+        &self,
+        reading: &SlowReading,
+    ) -> Result<Option<(Taken<'_>, SlowReading)>, Refusal> {
+        reading.move_on(self.buf, self.used)
     }
 
     /// The logbook's items in order: padding, deleted records and live entries, up to the end or

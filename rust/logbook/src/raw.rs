@@ -1,4 +1,4 @@
-//! The C interface (`include/logbook.h`), one to one: its structs, its numbers and its ten calls,
+//! The C interface (`include/logbook.h`), one to one: its structs, its numbers and its twelve calls,
 //! over slices.
 //!
 //! Every call takes any arguments. A refused call answers the refusal's number and place and
@@ -48,6 +48,10 @@ pub const ASSIGNMENT: usize = 4;
 pub const END: usize = 5;
 /// An item's kind: nothing was read, see the refusal.
 pub const REFUSED: usize = 6;
+/// An item's kind, of a move alone: the record's size is taken, its type comes next.
+pub const SIZE_HELD: usize = 7;
+/// An item's kind, of a move alone: the record's type is taken, its data comes next.
+pub const TYPE_HELD: usize = 8;
 
 /// The URIs of the two numbers that a header implies, one behind the other.
 pub const IMPLIED_NAMES: &[u8; 34] = b"urn:lozizol:typeurn:lozizol:header";
@@ -132,7 +136,7 @@ pub struct Row {
 #[repr(C)]
 #[derive(Clone, Copy, PartialEq, Eq, Debug)]
 pub struct Item {
-    /// [`PADDING`] to [`REFUSED`].
+    /// [`PADDING`] to [`TYPE_HELD`].
     pub kind: usize,
     /// 0, or the refusal's number.
     pub refusal: usize,
@@ -162,6 +166,32 @@ pub struct Step {
     pub item: Item,
     /// The reading behind the item; at the end, and where refused, as it was handed in.
     pub reading: Reading,
+}
+
+/// A slow reading: a reading, and what it holds of the record at its position. What is not held is 0.
+#[repr(C)]
+#[derive(Clone, Copy, PartialEq, Eq, Debug)]
+pub struct Slow {
+    /// Position, count and register. The position stays at a record's start until it is done.
+    pub reading: Reading,
+    /// With the size taken: where the record's type starts.
+    pub type_place: usize,
+    /// With the size taken: the record's end.
+    pub end: usize,
+    /// With the type taken: it.
+    pub number: u64,
+    /// With the type taken: where the record's data starts.
+    pub data_place: usize,
+}
+
+/// What [`move_on`] answers.
+#[repr(C)]
+#[derive(Clone, Copy, PartialEq, Eq, Debug)]
+pub struct Moved {
+    /// What was found; of [`SIZE_HELD`] and [`TYPE_HELD`] `place` is the record's start and all else 0.
+    pub item: Item,
+    /// The reading behind the move; at the end, and where refused, as it was handed in.
+    pub slow: Slow,
 }
 
 /// What [`uri`] answers.
@@ -246,7 +276,8 @@ pub struct Shifted {
 
 mod c {
     use super::{
-        Appended, Erased, Listed, Reading, Row, Shifted, Started, Step, Triple, UriAnswer, Wiped,
+        Appended, Erased, Listed, Moved, Reading, Row, Shifted, Slow, Started, Step, Triple,
+        UriAnswer, Wiped,
     };
 
     extern "C" {
@@ -285,6 +316,8 @@ mod c {
         ) -> Wiped;
         pub fn logbook_fresh() -> Reading;
         pub fn logbook_step(buf: *const u8, len: usize, used: usize, reading: Reading) -> Step;
+        pub fn logbook_slow_fresh() -> Slow;
+        pub fn logbook_move(buf: *const u8, len: usize, used: usize, slow: Slow) -> Moved;
         pub fn logbook_uri(len: usize, used: usize, row: Row) -> UriAnswer;
         pub fn logbook_list(
             reading: Reading,
@@ -381,6 +414,20 @@ pub fn step(buf: &[u8], used: usize, reading: Reading) -> Step {
     unsafe { c::logbook_step(buf.as_ptr(), buf.len(), used, reading) }
 }
 
+/// A fresh slow reading.
+#[inline]
+pub fn slow_fresh() -> Slow {
+    // SAFETY: the call takes nothing and answers a value.
+    unsafe { c::logbook_slow_fresh() }
+}
+
+/// Takes the next part of the item at a slow reading's position.
+#[inline]
+pub fn move_on(buf: &[u8], used: usize, slow: Slow) -> Moved {
+    // SAFETY: the pointer is the slice's, given with its length, and is only read.
+    unsafe { c::logbook_move(buf.as_ptr(), buf.len(), used, slow) }
+}
+
 /// Where the URI of a row stands, for a buffer of `len` bytes.
 #[inline]
 pub fn uri(len: usize, used: usize, row: Row) -> UriAnswer {
@@ -422,8 +469,8 @@ pub fn shift(uri: &[u8], data: &[u8], asked: i64, motion: Triple) -> Shifted {
 /// The structs' sizes and the places of their fields, as a C compiler has them.
 mod layout {
     use super::{
-        Appended, Erased, Item, Listed, Motion, Point, Reading, Row, Shifted, Started, Step,
-        Triple, UriAnswer, Wiped, ROWS,
+        Appended, Erased, Item, Listed, Motion, Moved, Point, Reading, Row, Shifted, Slow, Started,
+        Step, Triple, UriAnswer, Wiped, ROWS,
     };
     use std::mem::{offset_of, size_of};
 
@@ -463,6 +510,16 @@ mod layout {
 
     const _: () = assert!(offset_of!(Step, reading) == size_of::<Item>());
     const _: () = assert!(size_of::<Step>() == size_of::<Item>() + size_of::<Reading>());
+
+    const _: () = assert!(offset_of!(Slow, reading) == 0);
+    const _: () = assert!(offset_of!(Slow, type_place) == size_of::<Reading>());
+    const _: () = assert!(offset_of!(Slow, end) == size_of::<Reading>() + WORD);
+    const _: () = assert!(offset_of!(Slow, number) == size_of::<Reading>() + 2 * WORD);
+    const _: () = assert!(offset_of!(Slow, data_place) == size_of::<Reading>() + 2 * WORD + 8);
+    const _: () = assert!(size_of::<Slow>() == size_of::<Reading>() + 3 * WORD + 8);
+    const _: () = assert!(offset_of!(Moved, slow) == size_of::<Item>());
+    const _: () = assert!(size_of::<Moved>() == size_of::<Item>() + size_of::<Slow>());
+
     const _: () = assert!(size_of::<UriAnswer>() == 4 * WORD);
     const _: () = assert!(offset_of!(UriAnswer, implied) == WORD);
     const _: () = assert!(offset_of!(UriAnswer, place) == 2 * WORD);

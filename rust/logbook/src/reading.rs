@@ -159,19 +159,7 @@ impl Reading {
     ) -> Result<Option<(Item<'b>, Reading)>, Refusal> {
         let raw::Step { item, reading } = raw::step(buf, used, self.0);
         judged(item.refusal, item.place)?;
-        let item = match item.kind {
-            raw::END => return Ok(None),
-            raw::PADDING => Item::Padding {
-                place: Place(item.place),
-            },
-            raw::DELETED => Item::Deleted {
-                place: Place(item.place),
-                body_place: Place(item.data_place),
-                body: part(buf, item.data_place, item.data_length),
-            },
-            _ => Item::Entry(entry(buf, used, &item)?),
-        };
-        Ok(Some((item, Reading(reading))))
+        Ok(shown(buf, used, &item)?.map(|item| (item, Reading(reading))))
     }
 }
 
@@ -185,6 +173,26 @@ impl From<Reading> for raw::Reading {
     fn from(reading: Reading) -> raw::Reading {
         reading.0
     }
+}
+
+/// What the library shows of an item that isn't refused; `None` at the end.
+pub(crate) fn shown<'b>(
+    buf: &'b [u8],
+    used: usize,
+    item: &raw::Item,
+) -> Result<Option<Item<'b>>, Refusal> {
+    Ok(Some(match item.kind {
+        raw::END => return Ok(None),
+        raw::PADDING => Item::Padding {
+            place: Place(item.place),
+        },
+        raw::DELETED => Item::Deleted {
+            place: Place(item.place),
+            body_place: Place(item.data_place),
+            body: part(buf, item.data_place, item.data_length),
+        },
+        _ => Item::Entry(entry(buf, used, item)?),
+    }))
 }
 
 fn entry<'b>(buf: &'b [u8], used: usize, item: &raw::Item) -> Result<Entry<'b>, Refusal> {
