@@ -1,5 +1,5 @@
 //! The instructions that the library takes for an item, counted by callgrind: a step of a reading, the walk of an append,
-//! the listing. The logbooks are as long as a file that is listed may be.
+//! the listing, the moves of a slow reading (three for a live entry). The logbooks are as long as a file that is listed may be.
 //!
 //! It runs itself under valgrind, once for each count. The front of a logbook is counted by itself and taken off, so
 //! that a figure speaks of the shape's items alone. The same archive gives the same figures each time.
@@ -10,10 +10,11 @@ use std::env;
 use std::process::Command;
 
 /// What is counted: its name, and the call that counts.
-const COUNTED: [(&str, &str); 3] = [
+const COUNTED: [(&str, &str); 4] = [
     ("step", "logbook_step"),
     ("append", "logbook_append"),
     ("list", "logbook_list"),
+    ("moves", "logbook_move"),
 ];
 
 /// A whole reading, step by step.
@@ -25,6 +26,19 @@ fn step(log: &[u8]) {
             raw::END => return,
             raw::REFUSED => panic!("refused by {}", step.item.refusal),
             _ => reading = step.reading,
+        }
+    }
+}
+
+/// A whole reading, move by move.
+fn moves(log: &[u8]) {
+    let mut slow = raw::slow_fresh();
+    loop {
+        let moved = raw::move_on(log, log.len(), slow);
+        match moved.item.kind {
+            raw::END => return,
+            raw::REFUSED => panic!("refused by {}", moved.item.refusal),
+            _ => slow = moved.slow,
         }
     }
 }
@@ -56,7 +70,8 @@ fn work(name: &str, log: &[u8]) {
     match name {
         "step" => step(log),
         "append" => append(log),
-        _ => list(log),
+        "list" => list(log),
+        _ => moves(log),
     }
 }
 
@@ -103,7 +118,10 @@ fn main() {
     }
     println!("instructions an item");
     print!("{:<32}{:>8}", "", "items");
-    println!("{:>10}{:>10}{:>10}", "step", "append", "list");
+    for (name, _) in COUNTED {
+        print!("{name:>10}");
+    }
+    println!();
     for (index, shape) in all.iter().enumerate() {
         figures(index, shape);
     }
