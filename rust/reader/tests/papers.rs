@@ -1,21 +1,9 @@
 //! The cases of papers 01 and 02 [1], [5] and [11], run through the public calls.
 
+mod common;
+
+use common::*;
 use reader::*;
-
-const UUID: [u8; 16] = [
-    0x03, 0x93, 0x43, 0xBB, 0x90, 0x19, 0x4D, 0x6E, 0x82, 0x5E, 0x63, 0x1A, 0xA5, 0x78, 0xFF, 0x7F,
-];
-
-/// The largest type number, 128^9 - 1.
-const LIMIT: u64 = 9_223_372_036_854_775_807;
-
-/// A header and then these bytes.
-fn book(parts: &[&[u8]]) -> Vec<u8> {
-    let mut buf = vec![0; 109];
-    assert_eq!(start(&mut buf, &UUID, &[b'.'; 60]), Ok(109));
-    buf.extend(parts.concat());
-    buf
-}
 
 fn morning() -> Vec<u8> {
     book(&[
@@ -61,10 +49,6 @@ fn entries(log: &[u8]) -> Vec<(usize, Vec<u8>, Vec<u8>)> {
         _ => None,
     });
     live.collect()
-}
-
-fn refused<T>(number: u8, place: usize) -> Result<T, Refusal> {
-    Err(Refusal { number, place })
 }
 
 /// How the reading of a header and then these bytes is refused; every call
@@ -857,27 +841,6 @@ const POWERS: [(u64, &[u8]); 27] = [
 /// The writing of the limit.
 const LARGEST: &[u8] = POWERS[26].1;
 
-/// The one writing of a number: its digits to the base 128.
-fn writing(number: u64) -> Vec<u8> {
-    let (mut bytes, mut rest) = (vec![(number % 128) as u8], number / 128);
-    while rest > 0 {
-        bytes.insert(0, 128 + (rest % 128) as u8);
-        rest /= 128;
-    }
-    bytes
-}
-
-/// The record of this type number and data.
-fn record(number: u64, data: &[u8]) -> Vec<u8> {
-    let body = [&writing(number), data].concat();
-    [writing(body.len() as u64), body].concat()
-}
-
-/// A record under number 1 that assigns the URI to the number.
-fn assigns(number: u64, uri: &[u8]) -> Vec<u8> {
-    record(1, &[&writing(number), uri].concat())
-}
-
 #[test]
 fn numbers_at_each_power_of_128_are_written() {
     for (number, bytes) in POWERS {
@@ -1412,22 +1375,6 @@ fn types_of_nine_bytes_are_erased_and_wiped() {
         assert_eq!(wipe(&mut buf, used, place, 1), refused(8, place));
         assert_eq!(wipe(&mut erased, used, place, 99), Ok(stores));
         assert_eq!(erased, buf);
-    }
-}
-
-/// A small generator, so that each run is the same.
-struct Random(u64);
-
-impl Random {
-    fn below(&mut self, bound: usize) -> usize {
-        self.0 ^= self.0 << 13;
-        self.0 ^= self.0 >> 7;
-        self.0 ^= self.0 << 17;
-        (self.0 >> 11) as usize % bound
-    }
-
-    fn pick<T: Copy>(&mut self, from: &[T]) -> T {
-        from[self.below(from.len())]
     }
 }
 

@@ -1,42 +1,9 @@
 //! The cases of paper 02 [9], run through the public calls.
 
+mod common;
+
+use common::*;
 use reader::*;
-
-/// The largest type number, 128^9 - 1.
-const LIMIT: u64 = 9_223_372_036_854_775_807;
-
-/// A header and then these bytes.
-fn book(parts: &[&[u8]]) -> Vec<u8> {
-    let mut buf = vec![0; 109];
-    assert_eq!(start(&mut buf, &[0x5A; 16], &[b'.'; 60]), Ok(109));
-    buf.extend(parts.concat());
-    buf
-}
-
-/// The one writing of a number: its digits to the base 128.
-fn writing(number: u64) -> Vec<u8> {
-    let (mut bytes, mut rest) = (vec![(number % 128) as u8], number / 128);
-    while rest > 0 {
-        bytes.insert(0, 128 + (rest % 128) as u8);
-        rest /= 128;
-    }
-    bytes
-}
-
-/// The record of this type number and data.
-fn record(number: u64, data: &[u8]) -> Vec<u8> {
-    let body = [&writing(number), data].concat();
-    [writing(body.len() as u64), body].concat()
-}
-
-/// A record under number 1 that assigns the URI to the number.
-fn assigns(number: u64, uri: &[u8]) -> Vec<u8> {
-    record(1, &[&writing(number), uri].concat())
-}
-
-fn refused<T>(number: u8, place: usize) -> Result<T, Refusal> {
-    Err(Refusal { number, place })
-}
 
 /// A slow reading of what this plain one has read, with nothing held.
 fn slow(reading: &Reading) -> SlowReading {
@@ -96,22 +63,6 @@ fn check_item(of: &SlowReading, log: &[u8], item: Item, behind: usize) -> SlowRe
     assert_eq!(next.reading.position, behind);
     assert_eq!(held(&next), (0, 0, 0, 0));
     next
-}
-
-/// A small generator, so that each run is the same.
-struct Random(u64);
-
-impl Random {
-    fn below(&mut self, bound: usize) -> usize {
-        self.0 ^= self.0 << 13;
-        self.0 ^= self.0 >> 7;
-        self.0 ^= self.0 << 17;
-        (self.0 >> 11) as usize % bound
-    }
-
-    fn pick<T: Copy>(&mut self, from: &[T]) -> T {
-        from[self.below(from.len())]
-    }
 }
 
 #[test]
