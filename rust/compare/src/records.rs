@@ -2,12 +2,12 @@
 
 use crate::case::Case;
 use crate::pieces::HEADER_LENGTH;
-use crate::sides::Request;
+use crate::sides::{Answer, Request};
 use crate::tally::Tally;
 use logbook::raw;
 
-/// How many calls walk over a record.
-pub const WALKS: usize = 6;
+/// How many calls walk over a record, and its moves.
+pub const WALKS: usize = 7;
 
 /// A header, and these bytes behind it.
 pub fn behind_header(bytes: &[u8]) -> Vec<u8> {
@@ -18,7 +18,7 @@ pub fn behind_header(bytes: &[u8]) -> Vec<u8> {
 }
 
 /// Asks every call that walks over what stands at a place of a buffer, with room behind it for an
-/// append; the step last.
+/// append; the step and the moves last.
 pub fn ask_all(
     name: String,
     bytes: &[u8],
@@ -49,8 +49,31 @@ pub fn ask_all(
             reading: Box::new(reading),
         },
     ];
-    requests.map(|request| {
+    let mut answers = [(0, 0); WALKS];
+    for (answer, request) in answers.iter_mut().zip(&requests) {
         let mut case = Case::new(name.clone(), buf.clone(), used);
-        case.ask(used, &request, tally).refusal()
-    })
+        *answer = case.ask(used, request, tally).refusal();
+    }
+    answers[requests.len()] = move_over(Case::new(name, buf, used), reading, tally);
+    answers
+}
+
+/// Takes what stands at the reading's position by moves, to the last one's answer.
+fn move_over(mut case: Case, reading: raw::Reading, tally: &mut Tally) -> (usize, usize) {
+    case.track.slow = raw::Slow {
+        reading,
+        ..raw::slow_fresh()
+    };
+    loop {
+        let request = Request::Move {
+            slow: Box::new(case.track.slow),
+        };
+        let answer = case.ask(case.track.used, &request, tally);
+        let Answer::Moved { moved, .. } = &answer else {
+            unreachable!("a move is answered by a move");
+        };
+        if !matches!(moved.item.kind, raw::SIZE_HELD | raw::TYPE_HELD) {
+            return answer.refusal();
+        }
+    }
 }
