@@ -112,15 +112,18 @@ logbook_wiped logbook_wipe(uint8_t *buf, size_t len, size_t used, size_t place, 
 
 /*
  * ---- read a logbook item by item. A reading is a value: copy it, keep it, hand it in again later. Its register has `held` rows in
- * use, by rising number; the others are zero. A row of length 0 is one that a header implies.
+ * use, by rising number; the others are zero. A row of length 0 is one that a header implies. Any other row also has the place and the
+ * entry number (as counted by this reading, and never 0) of the record that assigned it.
  */
 typedef struct logbook_reading {
     size_t position; /* a place */
     size_t count;    /* live entries so far */
     size_t held;
     uint64_t numbers[LOGBOOK_ROWS];
-    uint32_t places[LOGBOOK_ROWS];
-    uint32_t lengths[LOGBOOK_ROWS];
+    uint32_t places[LOGBOOK_ROWS];  /* of the URIs */
+    uint32_t lengths[LOGBOOK_ROWS]; /* of the URIs */
+    uint32_t declared_places[LOGBOOK_ROWS];
+    uint32_t declared_numbers[LOGBOOK_ROWS];
 } logbook_reading;
 
 /* A row of the register: a type number and where its URI stands. */
@@ -150,8 +153,10 @@ typedef struct logbook_item {
     size_t data_place;  /* of a live entry: behind the type; of a deleted record: its body; else 0 */
     size_t data_length; /* up to the record's end; else 0 */
     logbook_row row;    /* of a live entry: its type number, and where its URI stands (logbook_uri); else zero */
-    uint64_t assigned;  /* of an assignment: the number that it assigns or removes; else 0 */
-    size_t assigned_place; /* of an assignment: where that number's URI stands, up to the record's end; else 0 */
+    size_t declared_place;  /* of a live entry: where the record starts that gave its type number this URI; else 0 */
+    size_t declared_number; /* that record's number; 0 where there is none, as a header implies the type number */
+    uint64_t assigned;      /* of an assignment: the number that it assigns or removes; else 0 */
+    size_t assigned_place;  /* of an assignment: where that number's URI stands, up to the record's end; else 0 */
 } logbook_item;
 
 typedef struct logbook_step_result {

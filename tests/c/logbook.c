@@ -44,18 +44,20 @@ SIZE(logbook_wiped, 3 * WORD);
 AT(logbook_wiped, refusal, 0);
 AT(logbook_wiped, place, WORD);
 AT(logbook_wiped, stores, 2 * WORD);
-SIZE(logbook_reading, 3 * WORD + 512);
+SIZE(logbook_reading, 3 * WORD + 768);
 AT(logbook_reading, position, 0);
 AT(logbook_reading, count, WORD);
 AT(logbook_reading, held, 2 * WORD);
 AT(logbook_reading, numbers, 3 * WORD);
 AT(logbook_reading, places, 3 * WORD + 256);
 AT(logbook_reading, lengths, 3 * WORD + 384);
+AT(logbook_reading, declared_places, 3 * WORD + 512);
+AT(logbook_reading, declared_numbers, 3 * WORD + 640);
 SIZE(logbook_row, 16);
 AT(logbook_row, number, 0);
 AT(logbook_row, place, 8);
 AT(logbook_row, length, 12);
-SIZE(logbook_item, 8 * WORD + 24);
+SIZE(logbook_item, 10 * WORD + 24);
 AT(logbook_item, kind, 0);
 AT(logbook_item, refusal, WORD);
 AT(logbook_item, place, 2 * WORD);
@@ -64,8 +66,10 @@ AT(logbook_item, type_place, 4 * WORD);
 AT(logbook_item, data_place, 5 * WORD);
 AT(logbook_item, data_length, 6 * WORD);
 AT(logbook_item, row, 7 * WORD);
-AT(logbook_item, assigned, 7 * WORD + 16);
-AT(logbook_item, assigned_place, 7 * WORD + 24);
+AT(logbook_item, declared_place, 7 * WORD + 16);
+AT(logbook_item, declared_number, 8 * WORD + 16);
+AT(logbook_item, assigned, 9 * WORD + 16);
+AT(logbook_item, assigned_place, 9 * WORD + 24);
 SIZE(logbook_step_result, sizeof(logbook_item) + sizeof(logbook_reading));
 AT(logbook_step_result, item, 0);
 AT(logbook_step_result, reading, sizeof(logbook_item));
@@ -150,25 +154,35 @@ static int is_entry(const uint8_t *buf, logbook_item item, size_t number, const 
            memcmp(logbook_uri_bytes(buf, answer), uri, answer.length) == 0;
 }
 
+/* Whether the record that gave the item's type number its meaning has this place and this number; 0 and 0 for none. */
+static int declares(logbook_item item, size_t place, size_t number) {
+    return item.declared_place == place && item.declared_number == number;
+}
+
 static void read_morning(const uint8_t *buf) {
     logbook_reading reading = logbook_fresh();
     CHECK(reading.position == 0 && reading.count == 0 && reading.held == 0);
     for (size_t row = 0; row < LOGBOOK_ROWS; row++) {
         CHECK(reading.numbers[row] == 0 && reading.places[row] == 0 && reading.lengths[row] == 0);
+        CHECK(reading.declared_places[row] == 0 && reading.declared_numbers[row] == 0);
     }
     logbook_item item = step(buf, &reading, LOGBOOK_HEADER, 0);
     CHECK(is_entry(buf, item, 1, "urn:lozizol:header", 107) && item.type_place == 1 && item.data_place == 2);
+    CHECK(declares(item, 0, 0));
     CHECK(reading.position == 109 && reading.held == 2 && reading.numbers[0] == 1 && reading.numbers[1] == 111);
     item = step(buf, &reading, LOGBOOK_ASSIGNMENT, 109);
     CHECK(is_entry(buf, item, 2, "urn:lozizol:type", 12) && item.assigned == 2 && item.assigned_place == 112);
     CHECK(reading.held == 3 && reading.numbers[1] == 2 && reading.places[1] == 112 && reading.lengths[1] == 11);
+    CHECK(declares(item, 0, 0) && reading.declared_places[1] == 109 && reading.declared_numbers[1] == 2);
     item = step(buf, &reading, LOGBOOK_ENTRY, 123);
     CHECK(is_entry(buf, item, 3, "urn:ep:2010", 2) && memcmp(buf + item.data_place, "P7", 2) == 0);
     CHECK(item.row.number == 2 && item.row.place == 112 && item.row.length == 11 && item.assigned == 0);
+    CHECK(declares(item, 109, 2));
     item = step(buf, &reading, LOGBOOK_ASSIGNMENT, 127);
     CHECK(is_entry(buf, item, 4, "urn:lozizol:type", 12));
     item = step(buf, &reading, LOGBOOK_ENTRY, 141);
     CHECK(is_entry(buf, item, 5, "urn:ep:2017", 2) && memcmp(buf + item.data_place, "P8", 2) == 0);
+    CHECK(declares(item, 127, 4));
     logbook_reading last = reading;
     step(buf, &reading, LOGBOOK_END, MORNING);
     CHECK(memcmp(&last, &reading, sizeof last) == 0 && reading.count == 5);

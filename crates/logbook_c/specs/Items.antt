@@ -8,10 +8,10 @@ use lib.ListN.{length, take, length-take}
 use Rattle.format.specs.Register as G
 use Rattle.format.specs.Records as M
 use Rattle.format.specs.Records.{Refusal, logbook}
-use Rattle.format.specs.Reading.{Shown, shown, end, refused, Stepped, stepped}
+use Rattle.format.specs.Reading.{Report, Shown, shown, end, refused, Stepped, stepped}
 use Rattle.format.specs.Calls.{bookIn, stepOn, Resolved, inLog, inNames, noUri}
 use Rattle.format.specs.Bytes.{stored}
-use Rattle.register.specs.Columns.{rowWith, detailLimit, detailsOf, placesOf, lengthsOf, columns-joined}
+use Rattle.register.specs.Columns.{rowWith}
 use Rattle.register.specs.declared.Row.{Row}
 use Rattle.record.specs.Items.{refusalOf, data-length}
 use Rattle.reading.specs.Readings.{readingOf, shownOf, Lying}
@@ -35,7 +35,7 @@ readingFrom r =
     record {
       position = record { 0 = r .position };
       count = record { 0 = r .count };
-      register = record { numbers = r .numbers; details = detailsOf (r .places) (r .lengths); held = r .held };
+      register = record { numbers = r .numbers; details = r .details; held = r .held };
     }
 
 -- ---- an item: kinds 0 to 6
@@ -53,6 +53,8 @@ bareAs kind x p =
       «data_place» = 0;
       «data_length» = 0;
       row = record { number = 0; place = 0; length = 0 };
+      «declared_place» = 0;
+      «declared_number» = 0;
       assigned = 0;
       «assigned_place» = 0;
     }
@@ -69,6 +71,8 @@ deletedAs p k s =
       «data_place» = p + k;
       «data_length» = s;
       row = record { number = 0; place = 0; length = 0 };
+      «declared_place» = 0;
+      «declared_number» = 0;
       assigned = 0;
       «assigned_place» = 0;
     }
@@ -84,6 +88,8 @@ liveAs kind e =
       «data_place» = e .place .0 + e .live .size + e .live .kind;
       «data_length» = e .live .body - e .live .kind;
       row = rowAs (e .live .row);
+      «declared_place» = e .live .declared .place .0;
+      «declared_number» = e .live .declared .number .0;
       assigned = 0;
       «assigned_place» = 0;
     }
@@ -100,6 +106,8 @@ assignmentAs e n m =
       «data_place» = e .place .0 + e .live .size + e .live .kind;
       «data_length» = e .live .body - e .live .kind;
       row = rowAs (e .live .row);
+      «declared_place» = e .live .declared .place .0;
+      «declared_number» = e .live .declared .number .0;
       assigned = n;
       «assigned_place» = e .place .0 + e .live .size + e .live .kind + m;
     }
@@ -135,22 +143,24 @@ abbrev pub rowIn : G.Row → LogbookRow
 rowIn r = record { number = r .number; place = r .place; length = r .length }
 
 -- kinds 2, 3 and 4; an assignment has the number that it assigns and its URI's place
-abbrev pub liveIn : M.Entry → ℕ → ℕ → ℕ → ℕ → LogbookItem
+abbrev pub liveIn : M.Entry → Report → ℕ → ℕ → ℕ → LogbookItem
 liveIn e n kind a q =
     record {
       kind = kind;
       refusal = 0;
       place = e .place;
-      number = n;
+      number = n .number;
       «type_place» = e .typePlace;
       «data_place» = e .dataPlace;
       «data_length» = length (e .bytes);
       row = rowIn (e .row);
+      «declared_place» = n .declared .place;
+      «declared_number» = n .declared .number;
       assigned = a;
       «assigned_place» = q;
     }
 
-abbrev pub kindIn : M.Kind → M.Entry → ℕ → LogbookItem
+abbrev pub kindIn : M.Kind → M.Entry → Report → LogbookItem
 kindIn M.plain e n = liveIn e n 2 0 0
 kindIn M.header e n = liveIn e n 3 0 0
 kindIn (M.assignment a q u) e n = liveIn e n 4 a q
@@ -197,10 +207,6 @@ item-shown l (Variant.Header e) k = rw (data-length l (e .place .0) (e .live) k)
 item-shown l (Variant.Assignment e n m) k = rw (data-length l (e .place .0) (e .live) (k .0))
 item-shown l (Variant.End p) k = refl
 item-shown l (Variant.Refused x) k = refl
-
--- the details of two columns that were taken out of them
-pub columns-back : (ds ps ks : List ℕ) → length ds ≡ detailLimit → ps ≡ placesOf ds → ks ≡ lengthsOf ds → detailsOf ps ks ≡ ds
-columns-back ds ps ks e p q = rw (p, q) (columns-joined ds e)
 
 pub step-told : (l : List ℕ) (used : ℕ) (r : LogbookReading) (x : LogbookStep) (i : Item) (s : Stepped) → x .item ≡ itemAs i → Lying (take used l) i
     → stepped (shownOf (take used l) i) (readingOf (readingFrom (x .reading))) ≡ s → s ≡ stepOn logbook (bookIn l used) (readingOf (readingFrom r)) → Steps l used r x

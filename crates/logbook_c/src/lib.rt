@@ -33,11 +33,11 @@ use fit::Resolved;
 use reading::Entry;
 use reading::Item;
 use reading::Reading;
-use record::EntryNumber;
-use record::Place;
 use record::Refusal;
-use register::Column;
+use register::Details;
+use register::EntryNumber;
 use register::Numbers;
+use register::Place;
 use register::Register;
 use register::Row;
 use slow::Held;
@@ -71,14 +71,15 @@ pub struct LogbookWiped {
     pub stores: usize,
 }
 
+// C has four columns in the place of the details: places and lengths of the URIs, places and numbers of the records that
+// assigned the rows.
 #[repr(C)]
 pub struct LogbookReading {
     pub position: usize,
     pub count: usize,
     pub held: usize,
     pub numbers: Numbers,
-    pub places: Column,
-    pub lengths: Column,
+    pub details: Details,
 }
 
 #[repr(C)]
@@ -98,6 +99,8 @@ pub struct LogbookItem {
     pub data_place: usize,
     pub data_length: usize,
     pub row: LogbookRow,
+    pub declared_place: usize,
+    pub declared_number: usize,
     pub assigned: u64,
     pub assigned_place: usize,
 }
@@ -280,11 +283,10 @@ fn reading_from(r: LogbookReading) -> Reading
     ensures { λ x. ⌜ x ≡ readingFrom r ⌝ }
 {
     let numbers = r.numbers;
-    let places = r.places;
-    let lengths = r.lengths;
+    let details = r.details;
     let register = Register {
         numbers,
-        details: register::details_of(places, lengths),
+        details,
         held: r.held,
     };
     Reading {
@@ -304,8 +306,7 @@ fn reading_as(r: Reading) -> LogbookReading
         count: r.count.0,
         held: r.register.held,
         numbers,
-        places: register::places(&details),
-        lengths: register::lengths(&details),
+        details,
     }
 }
 
@@ -344,6 +345,8 @@ fn bare_item(kind: usize, refusal: usize, place: usize) -> LogbookItem
         data_place: 0,
         data_length: 0,
         row,
+        declared_place: 0,
+        declared_number: 0,
         assigned: 0,
         assigned_place: 0,
     }
@@ -376,6 +379,8 @@ fn live_item(buf: &[u8], kind: usize, e: Entry) -> LogbookItem
         data_place: place + live.size + live.kind,
         data_length: live.body - live.kind,
         row,
+        declared_place: live.declared.place.0,
+        declared_number: live.declared.number.0,
         assigned: 0,
         assigned_place: 0,
     }
@@ -420,9 +425,7 @@ pub extern "C" fn logbook_step(buf: &[u8], used: usize, reading: LogbookReading)
     ensures { λ r. ⌜ Steps (now (buf .entry)) used reading r ⌝ }
 {
     let mut numbers = reading.numbers;
-    let places = reading.places;
-    let lengths = reading.lengths;
-    let mut details = register::details_of(places, lengths);
+    let mut details = reading.details;
     let position = Place(reading.position);
     let count = EntryNumber(reading.count);
     let t = reading::advance(
@@ -442,8 +445,7 @@ pub extern "C" fn logbook_step(buf: &[u8], used: usize, reading: LogbookReading)
             count: t.count.0,
             held: t.held,
             numbers,
-            places: register::places(&details),
-            lengths: register::lengths(&details),
+            details,
         },
     }
 }

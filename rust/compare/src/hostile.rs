@@ -4,6 +4,17 @@ use crate::books::{great, long_uri, Book};
 use crate::pieces::*;
 use crate::random::Random;
 
+/// A logbook of any make, by the round: grown, damaged, crafted or noise.
+pub fn any_make(random: &mut Random, round: usize) -> Book {
+    let items = random.below(30);
+    match round % 4 {
+        0 => Book::grown(random, items),
+        1 => damaged(random, items),
+        2 => crafted(random, items),
+        _ => noise(random),
+    }
+}
+
 /// Bytes that make records behind a header, each likely to mislead.
 const NOISE: [u8; 16] = [
     0x00, 0x01, 0x02, 0x03, 0x04, 0x05, 0x07, 0x6F, 0x6C, 0x7F, 0x80, 0x81, 0xFF, b'a', b':', b'u',

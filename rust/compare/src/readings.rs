@@ -157,6 +157,14 @@ fn number_edge(random: &mut Random) -> u64 {
     }
 }
 
+/// The number of the record that assigned a row: none, small, or any.
+fn entry_edge(random: &mut Random) -> u32 {
+    match random.below(4) {
+        0 => random.pick(&[0, 1, 1_000_000_000, u32::MAX]),
+        _ => random.below(300) as u32,
+    }
+}
+
 /// Random fields.
 fn anything(random: &mut Random, used: usize) -> raw::Reading {
     let mut reading = raw::fresh();
@@ -167,6 +175,10 @@ fn anything(random: &mut Random, used: usize) -> raw::Reading {
         reading.numbers[row] = number_edge(random);
         reading.places[row] = row_edge(random, used);
         reading.lengths[row] = row_edge(random, used);
+        if reading.lengths[row] != 0 || random.one_in(4) {
+            reading.declared_places[row] = row_edge(random, used);
+            reading.declared_numbers[row] = entry_edge(random);
+        }
     }
     if random.one_in(2) {
         reading.numbers.sort_unstable();
@@ -184,7 +196,7 @@ fn nearly(random: &mut Random, used: usize, known: &raw::Reading) -> raw::Readin
         2 => random.below(raw::ROWS),
         _ => random.below(last),
     };
-    let field = match random.below(6) {
+    let field = match random.below(8) {
         0 => return moved(random, used, reading, |reading| &mut reading.position),
         1 => return moved(random, used, reading, |reading| &mut reading.count),
         2 => return moved(random, used, reading, |reading| &mut reading.held),
@@ -193,7 +205,9 @@ fn nearly(random: &mut Random, used: usize, known: &raw::Reading) -> raw::Readin
             return reading;
         }
         4 => &mut reading.places[row],
-        _ => &mut reading.lengths[row],
+        5 => &mut reading.lengths[row],
+        6 => &mut reading.declared_places[row],
+        _ => &mut reading.declared_numbers[row],
     };
     *field = match random.below(3) {
         0 => field.wrapping_add(1),
@@ -269,6 +283,8 @@ fn naming(random: &mut Random, log: &[u8], places: &[usize]) -> raw::Reading {
         reading.numbers[row] = number;
         reading.places[row] = place as u32;
         reading.lengths[row] = length as u32;
+        reading.declared_places[row] = random.below(passed.len()) as u32;
+        reading.declared_numbers[row] = entry_edge(random).max(1);
     }
     reading
 }

@@ -262,6 +262,8 @@ pub fn to_theirs(reading: &raw::Reading) -> reader::Reading {
         row.number = reading.numbers[index];
         row.place = reading.places[index];
         row.length = reading.lengths[index];
+        row.declared_place = reading.declared_places[index];
+        row.declared_number = reading.declared_numbers[index];
         row.implied = index < reading.held && row.number != 0 && row.length == 0;
     }
     theirs
@@ -276,6 +278,8 @@ pub fn from_theirs(theirs: &reader::Reading) -> raw::Reading {
         numbers: theirs.rows.map(|row| row.number),
         places: theirs.rows.map(|row| row.place),
         lengths: theirs.rows.map(|row| row.length),
+        declared_places: theirs.rows.map(|row| row.declared_place),
+        declared_numbers: theirs.rows.map(|row| row.declared_number),
     }
 }
 
@@ -424,6 +428,8 @@ fn plain_item(kind: usize, place: usize) -> raw::Item {
             place: 0,
             length: 0,
         },
+        declared_place: 0,
+        declared_number: 0,
         assigned: 0,
         assigned_place: 0,
     }
@@ -437,6 +443,8 @@ fn entry_item(reading: &raw::Reading, frame: Frame, entry: reader::Item<'_>) -> 
         kind,
         data_place,
         data,
+        declared_place,
+        declared_number,
         ..
     } = entry
     else {
@@ -448,6 +456,8 @@ fn entry_item(reading: &raw::Reading, frame: Frame, entry: reader::Item<'_>) -> 
         data_place,
         data_length: data.len(),
         row: row_of(reading, frame.number),
+        declared_place,
+        declared_number,
         ..plain_item(raw::ENTRY, place)
     };
     match kind {

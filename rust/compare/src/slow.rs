@@ -1,8 +1,7 @@
 //! Moves against steps on the library alone: undisturbed, three moves are one step.
 
-use crate::books::Book;
 use crate::case::{hex, Track};
-use crate::hostile::{crafted, damaged, noise};
+use crate::hostile::any_make;
 use crate::random::Random;
 use crate::readings::outside;
 use crate::sides::{our_move, our_step, Answer};
@@ -87,13 +86,7 @@ fn compare(buf: &[u8], used: usize, reading: raw::Reading, counts: &mut Counts) 
 /// One round: a logbook of any make to its end or refusal, then readings from outside.
 pub fn round(seed: u64, round: usize, counts: &mut Counts) {
     let random = &mut Random::new(seed, round);
-    let items = random.below(30);
-    let book = match round % 4 {
-        0 => Book::grown(random, items),
-        1 => damaged(random, items),
-        2 => crafted(random, items),
-        _ => noise(random),
-    };
+    let book = any_make(random, round);
     let used = book.bytes.len();
     let mut track = Track::new(used, book.places);
     let mut known = vec![track.reading];

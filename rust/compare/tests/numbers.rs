@@ -220,6 +220,7 @@ fn holding(position: usize, numbers: &[u64]) -> raw::Reading {
     for (row, &number) in numbers.iter().enumerate() {
         reading.numbers[row] = number;
         (reading.places[row], reading.lengths[row]) = (112, 2);
+        (reading.declared_places[row], reading.declared_numbers[row]) = (109, 2);
     }
     reading
 }
@@ -279,6 +280,7 @@ fn readings_with_one_of_them_implied() {
         let case = &mut Case::new(format!("an implied {number}"), bytes, used);
         let mut reading = holding(places[0].1, &[number]);
         (reading.places[0], reading.lengths[0]) = (0, 0);
+        (reading.declared_places[0], reading.declared_numbers[0]) = (0, 0);
         let refusal = step(case, reading, &mut tally).item.refusal;
         assert_eq!(refusal != 13, matches!(number, 1 | 111), "{number}");
     }

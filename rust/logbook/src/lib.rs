@@ -55,7 +55,7 @@ mod slow;
 pub use listing::{listing, write_listing, Listing};
 pub use log::Logbook;
 pub use raw::{Motion, Point, Triple};
-pub use reading::{check, entries, items, Entry, Item, Items, Kind, Reading, Summary};
+pub use reading::{check, entries, items, Declared, Entry, Item, Items, Kind, Reading, Summary};
 pub use refusal::Refusal;
 pub use shift::{shift, Epoch, ParseEpochError, Shifted};
 pub use slow::{SizeHeld, SlowReading, Taken, TypeHeld};

@@ -118,6 +118,10 @@ pub struct Reading {
     pub places: [u32; ROWS],
     /// The lengths of the rows' URIs; 0 in a row that a header implies.
     pub lengths: [u32; ROWS],
+    /// Where the records start that assigned the rows; 0 in a row that a header implies.
+    pub declared_places: [u32; ROWS],
+    /// These records' entry numbers, never 0; 0 in a row that a header implies.
+    pub declared_numbers: [u32; ROWS],
 }
 
 /// A row of the register: a type number and where its URI stands.
@@ -152,6 +156,10 @@ pub struct Item {
     pub data_length: usize,
     /// Of a live entry: its type number and where its URI stands; see [`uri`].
     pub row: Row,
+    /// Of a live entry: where the record starts that gave its type number this URI.
+    pub declared_place: usize,
+    /// That record's entry number; 0 where there is none, as a header implies the number.
+    pub declared_number: usize,
     /// Of an assignment: the number that it assigns or removes.
     pub assigned: u64,
     /// Of an assignment: where that number's URI stands, up to the record's end.
@@ -485,18 +493,20 @@ mod layout {
     const _: () = assert!(size_of::<Wiped>() == 3 * WORD);
     const _: () = assert!(offset_of!(Wiped, stores) == 2 * WORD);
 
-    const _: () = assert!(size_of::<Reading>() == 3 * WORD + 16 * ROWS);
+    const _: () = assert!(size_of::<Reading>() == 3 * WORD + 24 * ROWS);
     const _: () = assert!(offset_of!(Reading, count) == WORD);
     const _: () = assert!(offset_of!(Reading, held) == 2 * WORD);
     const _: () = assert!(offset_of!(Reading, numbers) == 3 * WORD);
     const _: () = assert!(offset_of!(Reading, places) == 3 * WORD + 8 * ROWS);
     const _: () = assert!(offset_of!(Reading, lengths) == 3 * WORD + 12 * ROWS);
+    const _: () = assert!(offset_of!(Reading, declared_places) == 3 * WORD + 16 * ROWS);
+    const _: () = assert!(offset_of!(Reading, declared_numbers) == 3 * WORD + 20 * ROWS);
 
     const _: () = assert!(size_of::<Row>() == 16);
     const _: () = assert!(offset_of!(Row, place) == 8);
     const _: () = assert!(offset_of!(Row, length) == 12);
 
-    const _: () = assert!(size_of::<Item>() == 8 * WORD + 24);
+    const _: () = assert!(size_of::<Item>() == 10 * WORD + 24);
     const _: () = assert!(offset_of!(Item, kind) == 0);
     const _: () = assert!(offset_of!(Item, refusal) == WORD);
     const _: () = assert!(offset_of!(Item, place) == 2 * WORD);
@@ -505,8 +515,10 @@ mod layout {
     const _: () = assert!(offset_of!(Item, data_place) == 5 * WORD);
     const _: () = assert!(offset_of!(Item, data_length) == 6 * WORD);
     const _: () = assert!(offset_of!(Item, row) == 7 * WORD);
-    const _: () = assert!(offset_of!(Item, assigned) == 7 * WORD + 16);
-    const _: () = assert!(offset_of!(Item, assigned_place) == 7 * WORD + 24);
+    const _: () = assert!(offset_of!(Item, declared_place) == 7 * WORD + 16);
+    const _: () = assert!(offset_of!(Item, declared_number) == 8 * WORD + 16);
+    const _: () = assert!(offset_of!(Item, assigned) == 9 * WORD + 16);
+    const _: () = assert!(offset_of!(Item, assigned_place) == 9 * WORD + 24);
 
     const _: () = assert!(offset_of!(Step, reading) == size_of::<Item>());
     const _: () = assert!(size_of::<Step>() == size_of::<Item>() + size_of::<Reading>());

@@ -38,12 +38,40 @@ pub struct Entry<'b> {
     pub type_number: u64,
     /// The URI that the type number has at this record.
     pub uri: &'b [u8],
+    /// The record that gave the type number this URI; none where a header implies it.
+    ///
+    /// An assignment shows the record that declared the number it is written under, not itself.
+    pub declared: Option<Declared>,
     /// Where the data starts, behind the type number.
     pub data_place: Place,
     /// The data, up to the record's end.
     pub data: &'b [u8],
     /// What the entry does.
     pub kind: Kind<'b>,
+}
+
+/// The assignment that gave a type number its meaning.
+///
+/// ```
+/// use logbook::{Declared, EntryNumber, Logbook, Place};
+///
+/// let mut buffer = [0; 256];
+/// let mut log = Logbook::start(&mut buffer, &[7; 16], &[0; 60])?;
+/// log.append("urn:ep:2010", "P7")?;
+/// log.assign(2, "urn:ep:2017")?; // before lunch number 2 meant 2010
+/// log.append("urn:ep:2017", "P8")?;
+///
+/// let shot = log.entries().last().expect("a shot")?;
+/// let lunch = Declared { place: Place(127), number: EntryNumber(4) };
+/// assert_eq!((shot.data, shot.declared), (&b"P8"[..], Some(lunch)));
+/// # Ok::<(), logbook::Refusal>(())
+/// ```
+#[derive(Clone, Copy, PartialEq, Eq, Debug)]
+pub struct Declared {
+    /// Where its record starts.
+    pub place: Place,
+    /// Its entry number, as counted by this reading: entries erased before are not counted.
+    pub number: EntryNumber,
 }
 
 /// What a live entry does.
@@ -213,6 +241,10 @@ fn entry<'b>(buf: &'b [u8], used: usize, item: &raw::Item) -> Result<Entry<'b>, 
         type_place: Place(item.type_place),
         type_number: item.row.number,
         uri: uri(buf, used, item.row)?,
+        declared: (item.declared_number != 0).then_some(Declared {
+            place: Place(item.declared_place),
+            number: EntryNumber(item.declared_number),
+        }),
         data_place: Place(item.data_place),
         data,
         kind,

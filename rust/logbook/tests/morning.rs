@@ -3,7 +3,9 @@
 mod common;
 
 use common::{morning, FREE, UUID};
-use logbook::{Entry, EntryNumber, Item, Kind, Logbook, Place, Reading, Refusal, Summary};
+use logbook::{
+    Declared, Entry, EntryNumber, Item, Kind, Logbook, Place, Reading, Refusal, Summary,
+};
 
 const LISTING: &str = "\
 0\t1\turn:lozizol:header\t107
@@ -52,6 +54,14 @@ fn its_places_and_listing() -> Result<(), Refusal> {
     Ok(())
 }
 
+/// The record that gave a number its meaning.
+fn declared(place: usize, number: usize) -> Option<Declared> {
+    Some(Declared {
+        place: Place(place),
+        number: EntryNumber(number),
+    })
+}
+
 #[test]
 fn its_entries() -> Result<(), Refusal> {
     let mut buffer = [0; 200];
@@ -67,6 +77,7 @@ fn its_entries() -> Result<(), Refusal> {
         type_place: Place(128),
         type_number: 1,
         uri: b"urn:lozizol:type",
+        declared: None,
         data_place: Place(129),
         data: b"\x02urn:ep:2017",
         kind: Kind::Assignment {
@@ -81,11 +92,17 @@ fn its_entries() -> Result<(), Refusal> {
         type_place: Place(124),
         type_number: 2,
         uri: b"urn:ep:2010",
+        declared: declared(109, 2),
         data_place: Place(125),
         data: b"P7",
         kind: Kind::Plain,
     };
     assert_eq!(entries[2], shot);
+    let records: Vec<_> = entries.iter().map(|entry| entry.declared).collect();
+    assert_eq!(
+        records,
+        [None, None, declared(109, 2), None, declared(127, 4)]
+    );
     Ok(())
 }
 

@@ -26,6 +26,8 @@ fn item(kind: usize, refusal: usize, place: usize) -> Item {
         data_place: 0,
         data_length: 0,
         row: NO_ROW,
+        declared_place: 0,
+        declared_number: 0,
         assigned: 0,
         assigned_place: 0,
     }
@@ -128,7 +130,11 @@ fn the_items_of_the_morning() -> Result<(), Refusal> {
     let expected = [
         live(raw::HEADER, 0, 1, 107, row(111, 0, 0)),
         assignment(109, 2),
-        live(raw::ENTRY, 123, 3, 2, row(2, 112, 11)),
+        Item {
+            declared_place: 109,
+            declared_number: 2,
+            ..live(raw::ENTRY, 123, 3, 2, row(2, 112, 11))
+        },
         assignment(127, 4),
         deleted,
         item(raw::END, 0, 145),
@@ -138,6 +144,8 @@ fn the_items_of_the_morning() -> Result<(), Refusal> {
     assert_eq!(reading.numbers[..4], [1, 2, 111, 0]);
     assert_eq!(reading.places[..4], [0, 130, 0, 0]);
     assert_eq!(reading.lengths[..4], [0, 11, 0, 0]);
+    assert_eq!(reading.declared_places[..4], [0, 127, 0, 0]);
+    assert_eq!(reading.declared_numbers[..4], [0, 4, 0, 0]);
     Ok(())
 }
 
@@ -172,6 +180,8 @@ fn numbers_of_nine_bytes() {
         data_place: 132,
         data_length: 2,
         row: row(most, 120, 2),
+        declared_place: 109,
+        declared_number: 2,
         ..item(raw::ENTRY, 0, 122)
     };
     assert_eq!(entry.item, expected);
@@ -231,6 +241,11 @@ fn readings_that_do_not_fit() -> Result<(), Refusal> {
         changed(|reading| reading.numbers[1] = 1 << 32 | 111),
         changed(|reading| reading.numbers[31] = 1 << 32),
         changed(|reading| reading.lengths[31] = 1),
+        changed(|reading| reading.declared_places[0] = 1),
+        changed(|reading| reading.declared_numbers[1] = 1),
+        changed(|reading| reading.declared_places[2] = 1),
+        changed(|reading| reading.declared_numbers[31] = 1),
+        changed(|reading| (reading.places[0], reading.lengths[0]) = (12, 2)),
     ];
     for reading in readings {
         let step = raw::step(log.bytes(), log.used(), reading);

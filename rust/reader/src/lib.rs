@@ -1,6 +1,6 @@
 //! An independent implementation of the Lozizol 0.5 logbook, written from the
-//! papers alone: 01 (the scope, which decides), 02 \[1\], \[2\], \[5\], \[9\] and
-//! \[11\] (the change requests that have landed) and 000 (the format).
+//! papers alone: 01 (the scope, which decides), 02 \[1\], \[2\], \[5\], \[6\],
+//! \[9\] and \[11\] (the change requests that have landed) and 000 (the format).
 //!
 //! A logbook is a lent buffer and a used length. [`start`] makes one,
 //! [`Reading::step`] reads it item by item and [`SlowReading::move_on`] in
@@ -123,7 +123,7 @@
 //!     is 5 at the record's start and not 15, also with an empty URI behind it.
 //! 39. *The whole number counts.* 4,294,967,296 is not type 0, 4,294,967,297 is
 //!     not implied, and urn:lozizol:header goes to 111 alone.
-//! 40. *What a slow reading holds* (02 \[9\], to the last point) tells which move
+//! 40. *What a slow reading holds* (02 \[9\], to point 54) tells which move
 //!     comes next: none of the four fields, type's place and end, or all four.
 //!     Either pair is in use where one of its two isn't 0, so half a pair is 13.
 //!     A held type of 0 is 13 too: no row holds 0.
@@ -168,6 +168,35 @@
 //! 53. *A refused move* lets go of nothing: the same move comes next.
 //! 54. *The list.* An entry comes into it with its data move, with the bytes of
 //!     its URI and data as they are then.
+//! 55. *What a live item reports* (02 \[6\], to the last point) is what the row
+//!     holds by which its own type was resolved, as that row stands at the record,
+//!     before the record takes force. So an assignment, a removal too, reports who
+//!     declared the number it is written under and never itself: under the implied
+//!     1 none, and the old row's where it ends or replaces that very number.
+//! 56. *None* is place 0 and number 0. It is what an implied row holds and what
+//!     an item of one reports. 0 alone is also a place, the header's: a written
+//!     row with place 0 and another number than 0 has both, and fits.
+//! 57. *A header.* The one at place 0 reports none: no row is looked at (point
+//!     1). A later one reports what the row of 111 holds, none where that is
+//!     implied. The rows behind either hold none, and the count goes on.
+//! 58. *"The record that assigned it"* is the latest one. A number assigned again
+//!     gets the place and number of that record, with the URI it had too, and so
+//!     does a removed one; a removal of a number not held changes no row. The
+//!     place is that of the record's size, not of its URI.
+//! 59. *"As counted by this reading"*: one more than its count before the record,
+//!     whatever count it was handed in with. What was erased before it got there
+//!     isn't counted, as padding and deleted records aren't; an erase behind it
+//!     changes no row. 32 bits hold any count that fits, and the next one.
+//! 60. *The fit* bounds the place by the position alone, which it is below, and the
+//!     number by 0 alone. The number isn't held against the count, nor either
+//!     against the URI's place, another row or the bytes there; two rows may have
+//!     the same. What is handed in is reported as it is.
+//! 61. *Unused rows* are zero in these two as well.
+//! 62. *A slow reading* reports and keeps them with the data move, by the row of
+//!     the held type as it is handed in then; its position, which the places are
+//!     below, is the record's start. Place 0 is point 57.
+//! 63. *The calls that walk* hand out no row and no number, and keep no count.
+//!     The listing shows what it did.
 
 #![forbid(unsafe_code)]
 #![warn(missing_docs)]

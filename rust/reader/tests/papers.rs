@@ -1,4 +1,4 @@
-//! The cases of papers 01 and 02 [1], [5] and [11], run through the public calls.
+//! The cases of papers 01 and 02 [1], [5], [6] and [11], run through the public calls.
 
 mod common;
 
@@ -436,6 +436,28 @@ fn each_call_says_what_is_broken() {
     }
 }
 
+/// A row made by a header.
+fn implied(number: u64) -> Row {
+    Row {
+        number,
+        implied: true,
+        ..Row::default()
+    }
+}
+
+/// A row made by an assignment: place and length of its URI, then place and
+/// number of the record.
+fn written(number: u64, uri: (u32, u32), declared: (u32, u32)) -> Row {
+    Row {
+        number,
+        implied: false,
+        place: uri.0,
+        length: uri.1,
+        declared_place: declared.0,
+        declared_number: declared.1,
+    }
+}
+
 #[test]
 fn m11_the_mornings_file() {
     let lines = "0\t1\turn:lozizol:header\t107\n109\t2\turn:lozizol:type\t12\n\
@@ -466,6 +488,8 @@ fn m11_the_mornings_file() {
         uri: b"urn:ep:2017",
         data_place: 143,
         data: b"P8",
+        declared_place: 127,
+        declared_number: 4,
     };
     assert_eq!(list[4], entry);
     assert!(matches!(
@@ -478,17 +502,7 @@ fn m11_the_mornings_file() {
             ..
         }
     ));
-    let row = |number, implied, place, length| Row {
-        number,
-        implied,
-        place,
-        length,
-    };
-    let rows = [
-        row(1, true, 0, 0),
-        row(2, false, 130, 11),
-        row(111, true, 0, 0),
-    ];
+    let rows = [implied(1), written(2, (130, 11), (127, 4)), implied(111)];
     assert_eq!((reading.position, reading.count, reading.held), (145, 5, 3));
     assert_eq!(reading.rows[..3], rows);
     assert!(reading.rows[3..].iter().all(|row| *row == Row::default()));
@@ -666,16 +680,7 @@ fn readings_that_do_not_fit() {
         |r| r.rows[1].place = u32::MAX,
         |r| r.rows[1].place = 135,
         |r| r.rows[1].number = 112,
-        |r| {
-            (r.held, r.rows[3]) = (
-                4,
-                Row {
-                    number: 9_223_372_036_854_775_808,
-                    length: 1,
-                    ..Row::default()
-                },
-            )
-        },
+        |r| (r.held, r.rows[3]) = (4, written(9_223_372_036_854_775_808, (0, 1), (0, 1))),
         |r| (r.rows[1].place, r.rows[1].length) = (u32::MAX, u32::MAX),
     ];
     for (index, change) in changes.iter().enumerate() {
@@ -710,12 +715,7 @@ fn rows_from_outside_resolve_to_the_bytes_there() {
         let log = book(&[uri, tail]);
         let mut reading = Reading::fresh();
         (reading.position, reading.held) = (109 + uri.len(), 1);
-        reading.rows[0] = Row {
-            number: 5,
-            place: 109,
-            length: uri.len() as u32,
-            ..Row::default()
-        };
+        reading.rows[0] = written(5, (109, uri.len() as u32), (0, 1));
         let kind = reading.step(&log, log.len()).0.map(|item| match item {
             Item::Entry {
                 kind, uri: found, ..
@@ -894,14 +894,11 @@ fn numbers_at_each_power_of_128_are_read() {
             uri: b"a:",
             data_place: place + 1 + length,
             data: b"Q",
+            declared_place: 109,
+            declared_number: 2,
         };
         assert_eq!((list[2], refusal), (entry, None));
-        let row = Row {
-            number,
-            implied: false,
-            place: (111 + length) as u32,
-            length: 2,
-        };
+        let row = written(number, ((111 + length) as u32, 2), (109, 2));
         // Behind 1, and behind 111 or before it.
         let index = if number < 111 { 1 } else { 2 };
         assert_eq!((reading.held, reading.rows[index]), (3, row));
@@ -1259,16 +1256,14 @@ fn the_whole_number_counts() {
 
 #[test]
 fn rows_of_any_number_from_outside() {
-    let fits = |number: u64, implied: bool| {
+    let fits = |number: u64, is_implied: bool| {
         let log = book(&[b"a:", &record(number.min(LIMIT), b"Q")]);
         let mut reading = Reading::fresh();
         (reading.position, reading.held) = (111, 1);
-        let (place, length) = if implied { (0, 0) } else { (109, 2) };
-        reading.rows[0] = Row {
-            number,
-            implied,
-            place,
-            length,
+        reading.rows[0] = if is_implied {
+            implied(number)
+        } else {
+            written(number, (109, 2), (0, 1))
         };
         let (answer, next) = reading.step(&log, log.len());
         assert!(answer.is_ok() || next == reading);
@@ -1390,6 +1385,7 @@ fn random_calls_keep_the_demands() {
         b"urn:lozizol:header",
         b"bad",
     ];
+    let mut erased = 0;
     for _ in 0..2_000 {
         let mut buf = book(&[&[0xAA; 120]]);
         let mut used = 109;
@@ -1430,6 +1426,7 @@ fn random_calls_keep_the_demands() {
                         fewer.retain(|entry| entry.0 != place);
                         assert_eq!(fewer.len() + 1, list.len());
                         assert_eq!(entries(&buf[..used]), fewer);
+                        erased += 1;
                         false
                     }
                 },
@@ -1444,8 +1441,10 @@ fn random_calls_keep_the_demands() {
                 },
             };
             assert!(!refused || buf == before);
+            check_declared(&buf[..used], &items(&buf[..used]).0);
         }
     }
+    assert!(erased > 50, "{erased}");
 }
 
 /// Whether 14, 15 and 16 name a byte that can be the one at fault.
@@ -1469,6 +1468,35 @@ fn check_byte(buf: &[u8], Refusal { number, place }: Refusal) {
     }
 }
 
+/// The fit of a plain reading in the papers' words, by numbers that cannot
+/// overflow.
+fn fits(reading: &Reading, used: usize) -> bool {
+    let (position, count) = (reading.position as i128, reading.count as i128);
+    if position > used as i128 || count > position || reading.held > 32 {
+        return false;
+    }
+    let (rows, unused) = reading.rows.split_at(reading.held);
+    let mut before = 0;
+    for row in rows {
+        let rises = row.number > before && row.number <= LIMIT;
+        before = row.number;
+        let [place, length] = [row.place, row.length].map(i128::from);
+        let [declared_place, declared_number] =
+            [row.declared_place, row.declared_number].map(i128::from);
+        let fine = if row.implied {
+            let none = (declared_place, declared_number) == (0, 0);
+            matches!(row.number, 1 | 111) && (place, length) == (0, 0) && none
+        } else {
+            let both = declared_place < position && declared_number != 0;
+            (1..=255).contains(&length) && place + length <= position && both
+        };
+        if !(rises && fine) {
+            return false;
+        }
+    }
+    unused.iter().all(|row| *row == Row::default())
+}
+
 #[test]
 fn any_bytes_and_any_reading_end_in_an_answer() {
     let mut random = Random(0xD1B5_4A32_D192_ED03);
@@ -1479,7 +1507,8 @@ fn any_bytes_and_any_reading_end_in_an_answer() {
     let long = [0, 8, 9, 10, 0x7F, 0x80, 0x81, 0xFF, 0xFF, 0xFF, 0xFF];
     let odd = [0, 1, 2, 110, 125, 255, 256, u32::MAX, u32::MAX - 1];
     let numbers = [0, 1, 2, 111, 1 << 32, LIMIT - 1, LIMIT, LIMIT + 1, u64::MAX];
-    let mut seen = [0; 17];
+    let usual = [implied(1), written(2, (0, 2), (1, 1)), implied(111)];
+    let (mut seen, mut fitting) = ([0; 17], 0);
     for _ in 0..60_000 {
         let from = random.pick(&[&bytes[..], &long]);
         let tail: Vec<u8> = (0..16).map(|_| random.pick(from)).collect();
@@ -1494,8 +1523,27 @@ fn any_bytes_and_any_reading_end_in_an_answer() {
             row.implied = random.below(2) == 0;
             row.place = random.pick(&odd);
             row.length = random.pick(&odd);
+            row.declared_place = random.pick(&odd);
+            row.declared_number = random.pick(&odd);
+        }
+        if random.below(2) == 0 {
+            // All is well there but, it may be, for where one was declared.
+            reading.held = 3;
+            reading.rows = Reading::fresh().rows;
+            reading.rows[..3].copy_from_slice(&usual);
+            let row = &mut reading.rows[random.below(4)];
+            if random.below(3) == 0 {
+                row.declared_place = random.pick(&[0, 1, 108, 109, 112, 124, u32::MAX]);
+                row.declared_number = random.pick(&[0, 1, 2, u32::MAX]);
+            }
         }
         let (answer, next) = reading.step(&buf, used);
+        if used <= 125 {
+            let fit = fits(&reading, used);
+            assert_eq!(answer != refused(13, 0), fit, "{reading:?}");
+            fitting += usize::from(fit && reading.held > 0);
+        }
+        assert!(answer.is_err() || fits(&next, used));
         match answer {
             Ok(Item::End { .. }) => assert_eq!(next, reading),
             Ok(_) => assert!(next.position > reading.position && next.position <= used),
@@ -1524,6 +1572,651 @@ fn any_bytes_and_any_reading_end_in_an_answer() {
         assert!(seen[number] > 0, "{number}");
     }
     assert_eq!(seen[4], 0); // withdrawn
+    assert!(fitting > 500, "{fitting}");
+}
+
+/// The reports of the live entries of a logbook that reads to its end.
+fn declared(log: &[u8]) -> Vec<Report> {
+    let (list, _, refusal) = items(log);
+    assert_eq!(refusal, None);
+    check_declared(log, &list);
+    reports(&list)
+}
+
+/// What is reported of an implied number.
+const NONE: (usize, usize) = (0, 0);
+
+/// The rows in use of a reading that has read `log` up to the item at `place`.
+/// Its unused rows are zero.
+fn rows_at(log: &[u8], place: usize) -> Vec<Row> {
+    let mut reading = Reading::fresh();
+    while reading.position < place {
+        let (answer, next) = reading.step(log, log.len());
+        assert!(answer.is_ok(), "{answer:?}");
+        reading = next;
+    }
+    assert_eq!(reading.position, place);
+    let (rows, unused) = reading.rows.split_at(reading.held);
+    assert!(unused.iter().all(|row| *row == Row::default()));
+    rows.to_vec()
+}
+
+#[test]
+fn where_the_mornings_epochs_were_declared() {
+    let log = morning();
+    let reports = [
+        [(0, 1), NONE],
+        [(109, 2), NONE],
+        [(123, 3), (109, 2)],
+        [(127, 4), NONE],
+        [(141, 5), (127, 4)],
+    ];
+    assert_eq!(declared(&log), reports);
+    let before = [implied(1), written(2, (112, 11), (109, 2)), implied(111)];
+    let after = [implied(1), written(2, (130, 11), (127, 4)), implied(111)];
+    assert_eq!(rows_at(&log, 109), [implied(1), implied(111)]);
+    for place in [123, 127] {
+        assert_eq!(rows_at(&log, place), before);
+    }
+    for place in [141, 145] {
+        assert_eq!(rows_at(&log, place), after);
+    }
+    // M12: P8's number is 4 then, and that of its declaration 3.
+    let mut buf = log.clone();
+    assert_eq!(erase(&mut buf, 145, 123), Ok(124));
+    let reports = [
+        [(0, 1), NONE],
+        [(109, 2), NONE],
+        [(127, 3), NONE],
+        [(141, 4), (127, 3)],
+    ];
+    assert_eq!(declared(&buf), reports);
+    for _ in 0..3 {
+        assert_eq!(wipe(&mut buf, 145, 123, 1), Ok(1));
+        assert_eq!(declared(&buf), reports);
+    }
+    let after = [implied(1), written(2, (130, 11), (127, 3)), implied(111)];
+    assert_eq!(rows_at(&buf, 145), after);
+}
+
+#[test]
+fn a_reassignment_declares_anew() {
+    let log = book(&[
+        &assigns(2, b"a:"),
+        b"\x02\x02P",
+        &assigns(2, b"b:x"),
+        b"\x02\x02Q",
+    ]);
+    let reports = [
+        [(0, 1), NONE],
+        [(109, 2), NONE],
+        [(114, 3), (109, 2)],
+        [(117, 4), NONE],
+        [(123, 5), (117, 4)],
+    ];
+    assert_eq!(declared(&log), reports);
+    let row = written(2, (120, 3), (117, 4));
+    assert_eq!(rows_at(&log, 126), [implied(1), row, implied(111)]);
+}
+
+#[test]
+fn the_same_uri_assigned_again_declares_anew() {
+    let log = book(&[
+        &assigns(2, b"a:"),
+        b"\x02\x02P",
+        &assigns(2, b"a:"),
+        b"\x02\x02Q",
+    ]);
+    let reports = [
+        [(0, 1), NONE],
+        [(109, 2), NONE],
+        [(114, 3), (109, 2)],
+        [(117, 4), NONE],
+        [(122, 5), (117, 4)],
+    ];
+    assert_eq!(declared(&log), reports);
+    // Under two numbers the URI was declared twice, each by its own record.
+    let log = book(&[
+        &assigns(9, b"a:"),
+        &assigns(3, b"a:"),
+        b"\x01\x09\x01\x03\x01\x09",
+    ]);
+    let reports = [
+        [(119, 4), (109, 2)],
+        [(121, 5), (114, 3)],
+        [(123, 6), (109, 2)],
+    ];
+    assert_eq!(declared(&log)[3..], reports);
+}
+
+#[test]
+fn an_assignment_under_a_written_number() {
+    // 5 is declared at 109, and 7 under it at 128; at 136 5 is assigned under
+    // itself, which is then declared there.
+    let log = book(&[
+        &assigns(5, b"urn:lozizol:type"),
+        &record(5, b"\x07a:"),
+        b"\x02\x07P",
+        &record(5, b"\x05b:"),
+        b"\x02\x05Q",
+        &assigns(5, b""),
+    ]);
+    let reports = [
+        [(0, 1), NONE],
+        [(109, 2), NONE],
+        [(128, 3), (109, 2)],
+        [(133, 4), (128, 3)],
+        [(136, 5), (109, 2)],
+        [(141, 6), (136, 5)],
+        [(144, 7), NONE],
+    ];
+    assert_eq!(declared(&log), reports);
+    let row = |uri, declared| written(5, uri, declared);
+    assert_eq!(rows_at(&log, 136)[1], row((112, 16), (109, 2)));
+    assert_eq!(rows_at(&log, 141)[1], row((139, 2), (136, 5)));
+    // 1 too is declared once it is assigned; a removal of it reports the last.
+    let log = book(&[
+        &assigns(1, b"urn:lozizol:type"),
+        &assigns(2, b"a:"),
+        &assigns(1, b"urn:lozizol:type"),
+        &assigns(1, b""),
+        b"\x01\x02",
+    ]);
+    let reports = [
+        [(0, 1), NONE],
+        [(109, 2), NONE],
+        [(128, 3), (109, 2)],
+        [(133, 4), (109, 2)],
+        [(152, 5), (133, 4)],
+        [(155, 6), (128, 3)],
+    ];
+    assert_eq!(declared(&log), reports);
+    let row = written(1, (136, 16), (133, 4));
+    assert_eq!(rows_at(&log, 152)[0], row);
+    let rows = [written(2, (131, 2), (128, 3)), implied(111)];
+    assert_eq!(rows_at(&log, 155), rows);
+}
+
+#[test]
+fn a_removal_and_a_new_assignment() {
+    let log = book(&[
+        &assigns(2, b"a:"),
+        &assigns(3, b"c:"),
+        b"\x02\x02P",
+        &assigns(2, b""),
+        &assigns(2, b""), // not held
+        b"\x02\x03R",
+        &assigns(2, b"a:"),
+        b"\x02\x02Q",
+    ]);
+    let reports = [
+        [(0, 1), NONE],
+        [(109, 2), NONE],
+        [(114, 3), NONE],
+        [(119, 4), (109, 2)],
+        [(122, 5), NONE],
+        [(125, 6), NONE],
+        [(128, 7), (114, 3)],
+        [(131, 8), NONE],
+        [(136, 9), (131, 8)],
+    ];
+    assert_eq!(declared(&log), reports);
+    let other = written(3, (117, 2), (114, 3));
+    for place in [125, 128, 131] {
+        assert_eq!(rows_at(&log, place), [implied(1), other, implied(111)]);
+    }
+    let row = written(2, (134, 2), (131, 8));
+    assert_eq!(rows_at(&log, 136), [implied(1), row, other, implied(111)]);
+    // The last row in use is removed: nothing of it is left.
+    let log = book(&[&assigns(200, b"a:"), &assigns(200, b"")]);
+    assert_eq!(rows_at(&log, 119), [implied(1), implied(111)]);
+}
+
+#[test]
+fn a_later_header_empties_what_was_declared() {
+    let header = book(&[]);
+    let log = book(&[
+        &assigns(2, b"a:"),
+        &header,
+        &assigns(2, b"b:"),
+        b"\x02\x02P",
+    ]);
+    let reports = [
+        [(0, 1), NONE],
+        [(109, 2), NONE],
+        [(114, 3), NONE],
+        [(223, 4), NONE],
+        [(228, 5), (223, 4)],
+    ];
+    assert_eq!(declared(&log), reports);
+    assert_eq!(rows_at(&log, 223), [implied(1), implied(111)]);
+    // Where 111 or 1 was written, the header reports the first and ends both.
+    let log = book(&[
+        &assigns(111, b"urn:lozizol:header"),
+        &assigns(1, b"urn:lozizol:type"),
+        &header,
+        &header,
+        &assigns(2, b"a:"),
+    ]);
+    let reports = [
+        [(0, 1), NONE],
+        [(109, 2), NONE],
+        [(130, 3), NONE],
+        [(149, 4), (109, 2)],
+        [(258, 5), NONE],
+        [(367, 6), NONE],
+    ];
+    assert_eq!(declared(&log), reports);
+    let rows = [
+        written(1, (133, 16), (130, 3)),
+        written(111, (112, 18), (109, 2)),
+    ];
+    assert_eq!(rows_at(&log, 149), rows);
+    assert_eq!(rows_at(&log, 258), [implied(1), implied(111)]);
+}
+
+/// Two shots of 2, at 114 and 117, and one of 3, at 125; 2 is declared at 109
+/// and 3 at 120.
+fn three_shots() -> Vec<u8> {
+    book(&[
+        &assigns(2, b"a:"),
+        b"\x02\x02P\x02\x02Q",
+        &assigns(3, b"b:"),
+        b"\x02\x03R",
+    ])
+}
+
+#[test]
+fn entries_erased_earlier_are_not_counted() {
+    let mut buf = three_shots();
+    assert_eq!(declared(&buf)[5], [(125, 6), (120, 5)]);
+    for (place, number) in [(114, 4), (117, 3)] {
+        assert_eq!(erase(&mut buf, 128, place), Ok(place + 1));
+        let shot = [(125, number + 1), (120, number)];
+        assert_eq!(declared(&buf).last(), Some(&shot));
+        assert_eq!(wipe(&mut buf, 128, place, 9), Ok(2));
+        assert_eq!(declared(&buf).last(), Some(&shot));
+        let row = written(3, (123, 2), (120, number as u32));
+        assert_eq!(rows_at(&buf, 125)[2], row);
+    }
+    // Padding and a deleted record before it are not counted either.
+    let log = book(&[b"\x00\x00\x02\x00Z", &assigns(3, b"b:"), b"\x00\x01\x03"]);
+    assert_eq!(declared(&log)[2], [(120, 3), (114, 2)]);
+}
+
+#[test]
+fn entries_erased_behind_a_reading_stay_counted() {
+    // Up to where the reading has come, what is erased, and what R reports.
+    for (position, erased, report) in [
+        (128, 117, None),
+        (125, 114, Some([(125, 6), (120, 5)])),
+        (120, 117, Some([(125, 6), (120, 5)])),
+        (117, 117, Some([(125, 5), (120, 4)])),
+        (117, 114, Some([(125, 6), (120, 5)])),
+        (114, 117, Some([(125, 5), (120, 4)])),
+        (0, 117, Some([(125, 5), (120, 4)])),
+    ] {
+        let mut buf = three_shots();
+        let mut reading = Reading::fresh();
+        let mut list = Vec::new();
+        while reading.position < position {
+            let (answer, next) = reading.step(&buf, 128);
+            assert!(answer.is_ok(), "{answer:?}");
+            reading = next;
+        }
+        assert_eq!(erase(&mut buf, 128, erased), Ok(erased + 1));
+        while reading.position < 128 {
+            let (answer, next) = reading.step(&buf, 128);
+            list.push(answer.unwrap());
+            reading = next;
+        }
+        assert_eq!(reports(&list).pop(), report, "{position} {erased}");
+    }
+}
+
+#[test]
+fn rows_keep_what_they_hold_when_others_come_and_go() {
+    let (buf, used) = full_of_nine();
+    let (list, end, _) = items(&buf[..used]);
+    check_declared(&buf[..used], &list);
+    // The first was declared at 109; then 111 and 1 were removed.
+    for (row, index) in end.rows.iter().zip((0..32).rev()) {
+        let declared = (row.declared_place, row.declared_number);
+        if index == 0 {
+            assert_eq!(declared, (109, 2));
+        } else {
+            // Size, type and number are in front of the URI.
+            assert_eq!(declared, (row.place - 19, index + 4));
+        }
+    }
+    // One in the middle goes, and then a smaller one comes.
+    let mut more = buf.clone();
+    let gone = assign(&mut more, used, falling(9), b"").unwrap();
+    let came = assign(&mut more, gone.used, 7, b"b:").unwrap();
+    let mut rows = end.rows.to_vec();
+    assert_eq!(rows.remove(22).number, falling(9));
+    let log = &more[..came.used];
+    assert_eq!(rows_at(log, gone.used), rows);
+    let uri = (came.used as u32 - 2, 2);
+    rows.insert(0, written(7, uri, (gone.used as u32, 37)));
+    assert_eq!(rows_at(log, came.used), rows);
+    // A refused one leaves all as it was.
+    let refused = [log, &record(falling(0), b"\x08b:")].concat();
+    assert_eq!(rows_at(&refused, came.used), rows);
+    assert_eq!(items(&refused).1.rows[..], rows);
+}
+
+#[test]
+fn numbers_go_on_from_the_count_handed_in() {
+    let log = book(&[&assigns(2, b"a:"), b"\x02\x02P"]);
+    let before = Reading::fresh().step(&log, 117).1;
+    for count in [0, 1, 2, 50, 108, 109] {
+        let mut reading = before.clone();
+        reading.count = count;
+        let (first, next) = reading.step(&log, 117);
+        let (second, end) = next.step(&log, 117);
+        let list = [first.unwrap(), second.unwrap()];
+        let declared = (109, count + 1);
+        let expected = [[declared, NONE], [(114, count + 2), declared]];
+        assert_eq!(reports(&list), expected);
+        assert_eq!((next.count, end.count), (count + 1, count + 2));
+        assert_eq!(next.rows[1].declared_number as usize, count + 1);
+    }
+    // As far as places and counts go.
+    const MOST: usize = 16_777_216;
+    let mut buf = vec![0; MOST - 5];
+    buf.extend(assigns(2, b"a:"));
+    let mut reading = before.clone();
+    (reading.position, reading.count) = (MOST - 5, MOST - 5);
+    let (answer, next) = reading.step(&buf, MOST);
+    assert!(answer.is_ok());
+    let far = (MOST as u32 - 5, MOST as u32 - 4);
+    assert_eq!(next.rows[1], written(2, (MOST as u32 - 2, 2), far));
+    assert_eq!(next.step(&buf, MOST).0, Ok(Item::End { place: MOST }));
+}
+
+/// Whether a reading at this position with this row alone fits or not.
+fn check_row(row: Row, position: usize, fits: bool) {
+    let log = book(&[&[0; 50]]);
+    let mut reading = Reading::fresh();
+    (reading.position, reading.held, reading.rows[0]) = (position, 1, row);
+    let (answer, next) = reading.step(&log, log.len());
+    assert_eq!(answer != refused(13, 0), fits, "{position} {row:?}");
+    assert!(fits || next == reading);
+}
+
+#[test]
+fn a_written_row_has_both_a_place_and_a_number() {
+    let numbers = [0, 1, 2, 110, 111, 112, 65_536, u32::MAX - 1, u32::MAX];
+    // The place is below the position, from 0 up, and not held against the URI's.
+    for (position, place, below) in [
+        (111, 0, true),
+        (111, 1, true),
+        (111, 108, true),
+        (111, 109, true),
+        (111, 110, true),
+        (111, 111, false),
+        (111, 112, false),
+        (111, u32::MAX, false),
+        (112, 111, true),
+        (112, 112, false),
+        (158, 157, true),
+        (158, 158, false),
+        (159, 158, true), // at the end
+        (159, 159, false),
+    ] {
+        for number in numbers {
+            for held in [1, 5, 111, LIMIT] {
+                let row = written(held, (109, 2), (place, number));
+                check_row(row, position, below && number != 0);
+            }
+        }
+    }
+    // As near to place 0 as a URI can be.
+    check_row(written(5, (0, 1), (0, 1)), 1, true);
+    check_row(written(5, (0, 1), (1, 1)), 1, false);
+    check_row(written(5, (0, 1), (0, 0)), 1, false);
+    check_row(written(5, (0, 1), (1, 1)), 2, true);
+    // All else that makes a row fit stays.
+    check_row(written(5, (109, 0), (109, 2)), 111, false);
+    check_row(written(5, (110, 2), (109, 2)), 111, false);
+    check_row(written(0, (109, 2), (109, 2)), 111, false);
+}
+
+#[test]
+fn an_implied_row_has_neither() {
+    for number in [1, 111] {
+        for position in [0, 1, 2, 109, 111, 159] {
+            check_row(implied(number), position, true);
+            for (declared_place, declared_number) in [
+                (0, 1),
+                (1, 0),
+                (1, 1),
+                (108, 1),
+                (109, 2),
+                (0, u32::MAX),
+                (u32::MAX, 0),
+                (u32::MAX, u32::MAX),
+            ] {
+                let row = Row {
+                    declared_place,
+                    declared_number,
+                    ..implied(number)
+                };
+                check_row(row, position, false);
+            }
+        }
+    }
+}
+
+#[test]
+fn unused_rows_are_zero_in_both() {
+    let log = morning();
+    for of in [Reading::fresh(), items(&log).1] {
+        for index in of.held..32 {
+            for (declared_place, declared_number) in
+                [(0, 1), (1, 0), (1, 1), (u32::MAX, 0), (0, u32::MAX)]
+            {
+                let mut odd = of.clone();
+                odd.rows[index] = Row {
+                    declared_place,
+                    declared_number,
+                    ..Row::default()
+                };
+                assert_eq!(odd.step(&log, 145), (refused(13, 0), odd));
+            }
+        }
+        assert!(of.step(&log, 145).0.is_ok());
+    }
+}
+
+#[test]
+fn each_row_is_judged_by_where_it_was_declared() {
+    let (buf, used) = full_of_nine();
+    let (_, end, _) = items(&buf[..used]);
+    for index in 0..32 {
+        for (place, number, fits) in [
+            (used - 1, 1, true),
+            (used, 1, false),
+            (used - 1, 0, false),
+            (0, u32::MAX, true),
+        ] {
+            let mut of = end.clone();
+            of.rows[index].declared_place = place as u32;
+            of.rows[index].declared_number = number;
+            let answer = if fits {
+                Ok(Item::End { place: used })
+            } else {
+                refused(13, 0)
+            };
+            assert_eq!(of.step(&buf, used), (answer, of), "{index}");
+        }
+    }
+}
+
+#[test]
+fn what_is_handed_in_is_reported_as_it_is() {
+    // An entry, an assignment, a removal of its own number, a header.
+    let header = book(&[]);
+    for (number, uri, behind) in [
+        (5, &b"a:"[..], &b"\x02\x05Q"[..]),
+        (5, b"urn:lozizol:type", b"\x04\x05\x07b:"),
+        (5, b"urn:lozizol:type", b"\x02\x05\x05"),
+        (5, b"urn:lozizol:type", b"\x04\x05\x05b:"),
+        (111, b"urn:lozizol:header", &header),
+    ] {
+        let log = book(&[uri, behind]);
+        let place = 109 + uri.len();
+        for declared in [(0, 1), (7, u32::MAX), (place as u32 - 1, 3)] {
+            let mut reading = Reading::fresh();
+            (reading.position, reading.count, reading.held) = (place, 1, 1);
+            reading.rows[0] = written(number, (109, uri.len() as u32), declared);
+            let (answer, next) = reading.step(&log, log.len());
+            let report = [(place, 2), (declared.0 as usize, declared.1 as usize)];
+            assert_eq!(reports(&[answer.unwrap()]), [report]);
+            // What it assigns was declared by it.
+            let new = next.rows.iter().filter(|row| row.place as usize > place);
+            for row in new {
+                let declared = (row.declared_place, row.declared_number);
+                assert_eq!(declared, (place as u32, 2));
+            }
+        }
+    }
+}
+
+/// A call of a series, with its own request.
+#[derive(Clone, Copy, Debug)]
+enum Call {
+    Append(&'static [u8]),
+    Assign(u64, &'static [u8]),
+    Erase(usize),
+    Wipe(usize, usize),
+    Step,
+}
+
+/// A logbook and a reading of it, with the list so far.
+#[derive(Clone)]
+struct Desk {
+    buf: Vec<u8>,
+    used: usize,
+    reading: Reading,
+    list: Vec<String>,
+    ended: bool,
+}
+
+impl Desk {
+    /// Makes a call and gives its answer; a step's is its item, with the bytes
+    /// as they are then, and the reading.
+    fn make(&mut self, call: Call) -> String {
+        let (buf, used) = (&mut self.buf, self.used);
+        let wrote = match call {
+            Call::Append(uri) => append(buf, used, uri, b"dd"),
+            Call::Assign(number, uri) => assign(buf, used, number, uri),
+            Call::Erase(place) => return format!("{:?}", erase(buf, used, place)),
+            Call::Wipe(place, limit) => return format!("{:?}", wipe(buf, used, place, limit)),
+            Call::Step => return self.step(),
+        };
+        self.used = wrote.map_or(used, |wrote| wrote.used);
+        format!("{wrote:?}")
+    }
+
+    fn step(&mut self) -> String {
+        let (answer, next) = self.reading.step(&self.buf, self.used);
+        let item = answer.unwrap();
+        let says = format!("{item:?} {next:?}");
+        if !self.ended {
+            self.list.push(says.clone());
+        }
+        self.ended |= matches!(item, Item::End { .. });
+        self.reading = next;
+        says
+    }
+
+    /// Whether a call made now is late.
+    fn is_late(&self, call: Call) -> bool {
+        match call {
+            _ if self.ended => true,
+            Call::Erase(place) | Call::Wipe(place, _) => place < self.reading.position,
+            _ => false,
+        }
+    }
+}
+
+/// A call picked for the desk as it is.
+fn any_call(random: &mut Random, desk: &Desk) -> Call {
+    let uris: [&[u8]; 6] = [b"a:", b"b:x", b"c:1", b"", b"urn:lozizol:type", b"bad"];
+    let places: Vec<usize> = items(&desk.buf[..desk.used])
+        .0
+        .iter()
+        .map(|item| match *item {
+            Item::Padding { place } | Item::Deleted { place } => place,
+            Item::Entry { place, .. } | Item::End { place } => place,
+        })
+        .collect();
+    let place = random.pick(&places);
+    match random.below(10) {
+        0 | 1 => Call::Append(random.pick(&uris)),
+        2 => Call::Assign(random.pick(&[0, 1, 2, 3, 111, 128]), random.pick(&uris)),
+        3 | 4 => Call::Erase(place),
+        5 => Call::Wipe(place, random.below(5)),
+        _ => Call::Step,
+    }
+}
+
+#[test]
+fn demand_3_with_where_all_was_declared() {
+    let mut random = Random(0x2545_F491_4F6C_DD1D);
+    let (mut ends, mut behind) = (0, 0);
+    for _ in 0..1_500 {
+        let mut mixed = Desk {
+            buf: book(&[&[0xAA; 200]]),
+            used: 109,
+            reading: Reading::fresh(),
+            list: Vec::new(),
+            ended: false,
+        };
+        for _ in 0..random.below(20) {
+            let call = any_call(&mut random, &mixed);
+            if !matches!(call, Call::Step) {
+                mixed.make(call);
+            }
+        }
+        let mut sorted = mixed.clone();
+        let (mut early, mut late) = (Vec::new(), Vec::new());
+        for _ in 0..random.pick(&[10, 30, 60]) {
+            let call = any_call(&mut random, &mixed);
+            let is_late = mixed.is_late(call);
+            let answer = mixed.make(call);
+            let erased = matches!(call, Call::Erase(_)) && answer.starts_with("Ok");
+            behind += usize::from(erased && is_late && !mixed.ended);
+            if is_late {
+                late.push((call, answer));
+            } else if !matches!(call, Call::Step) {
+                early.push((call, answer));
+            }
+        }
+        for (call, answer) in early {
+            assert_eq!(sorted.make(call), answer, "{call:?}");
+        }
+        check_declared(
+            &sorted.buf[..sorted.used],
+            &items(&sorted.buf[..sorted.used]).0,
+        );
+        while !sorted.ended {
+            sorted.step();
+        }
+        for (call, answer) in late {
+            assert_eq!(sorted.make(call), answer, "{call:?}");
+        }
+        assert_eq!((mixed.used, &mixed.buf), (sorted.used, &sorted.buf));
+        assert_eq!(mixed.list, sorted.list[..mixed.list.len()]);
+        if mixed.ended {
+            assert_eq!(mixed.list.len(), sorted.list.len());
+            assert_eq!(mixed.reading, sorted.reading);
+            ends += 1;
+        }
+    }
+    assert!(ends > 300 && behind > 300, "{ends} {behind}");
 }
 
 /// The data of a shot.

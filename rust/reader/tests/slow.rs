@@ -1,4 +1,4 @@
-//! The cases of paper 02 [9], run through the public calls.
+//! The cases of paper 02 [9], and of [6] for it, run through the public calls.
 
 mod common;
 
@@ -65,6 +65,23 @@ fn check_item(of: &SlowReading, log: &[u8], item: Item, behind: usize) -> SlowRe
     next
 }
 
+/// What is reported of an implied number.
+const NONE: (usize, usize) = (0, 0);
+
+/// The items that the moves of a fresh slow reading come to, up to its end.
+fn items(log: &[u8]) -> Vec<Item<'_>> {
+    let (mut list, mut of) = (Vec::new(), SlowReading::fresh());
+    loop {
+        let (answer, next) = of.move_on(log, log.len());
+        match answer.unwrap() {
+            Moved::Item(Item::End { .. }) => return list,
+            Moved::Item(item) => list.push(item),
+            Moved::Size { .. } | Moved::Type { .. } => {}
+        }
+        of = next;
+    }
+}
+
 #[test]
 fn a_fresh_one_holds_nothing() {
     let fresh = SlowReading::fresh();
@@ -83,6 +100,8 @@ fn size_type_and_data_in_two_moves() {
         uri: b"urn:lozizol:header",
         data_place: 2,
         data: &log[2..109],
+        declared_place: 0,
+        declared_number: 0,
     };
     let before = check_item(&header, &log, first, 109);
     let moves = two_moves(&before, &log, (110, 123, 1, 111));
@@ -93,6 +112,8 @@ fn size_type_and_data_in_two_moves() {
         uri: b"urn:lozizol:type",
         data_place: 111,
         data: b"\x02urn:ep:2010",
+        declared_place: 0,
+        declared_number: 0,
     };
     let before = check_item(&moves, &log, assignment, 123);
     assert_eq!(before.reading, at(&log, 123).reading);
@@ -104,6 +125,8 @@ fn size_type_and_data_in_two_moves() {
         uri: b"urn:ep:2010",
         data_place: 125,
         data: b"P7",
+        declared_place: 109,
+        declared_number: 2,
     };
     let end = check_item(&moves, &log, shot, 127);
     let over = check_item(&end, &log, Item::End { place: 127 }, 127);
@@ -154,6 +177,8 @@ fn sizes_of_one_to_four_bytes_and_types_of_one_to_nine() {
                 uri: b"a:",
                 data_place,
                 data: &log[data_place..],
+                declared_place: 109,
+                declared_number: 2,
             };
             check_item(&moves, &log, item, log.len());
         }
@@ -757,6 +782,8 @@ fn check_last_shot(of: &SlowReading, log: &[u8], number: usize) {
         uri: b"a:",
         data_place: place + 3,
         data: b"Q",
+        declared_place: 109,
+        declared_number: 2,
     };
     let moves = two_moves(of, log, (place + 1, place + 4, 300, place + 3));
     let end = check_item(&moves, log, shot, log.len());
@@ -822,6 +849,8 @@ fn wiped_between_type_and_data_against_the_premise() {
                 uri: b"a:",
                 data_place: end - data.len(),
                 data: &wiped[end - data.len()..end],
+                declared_place: 109,
+                declared_number: 2,
             };
             let next = check_item(&taken, &wiped, item, end);
             assert_eq!(next.reading, at(&log, end).reading);
@@ -870,6 +899,8 @@ fn the_data_move_reads_the_bytes_as_they_are_then() {
         uri: b"a:",
         data_place: 116,
         data: &[b'-'; 20],
+        declared_place: 109,
+        declared_number: 2,
     };
     check_item(&taken, &log, item, 136);
     // The URI is the one whose bytes stand at the row's place then.
@@ -942,6 +973,7 @@ fn rows_from_outside_resolve_to_the_bytes_there() {
             number: 5,
             place: 109,
             length: uri.len() as u32,
+            declared_number: 1,
             ..Row::default()
         };
         let answer = of.move_on(&log, log.len()).0.map(|moved| match moved {
@@ -1089,6 +1121,8 @@ fn the_largest_used_length() {
         uri: b"a:",
         data_place: 119,
         data: &buf[119..MOST],
+        declared_place: 109,
+        declared_number: 2,
     };
     let end = check_item(&moves, &buf[..MOST], item, MOST);
     check_item(&end, &buf[..MOST], Item::End { place: MOST }, MOST);
@@ -1101,6 +1135,243 @@ fn the_largest_used_length() {
     }
     assert_eq!(before.move_on(&buf, MOST - 1).0, refused(2, 114));
     assert_eq!(before.move_on(&buf, MOST + 1).0, refused(1, 0));
+}
+
+/// The declared place and number of the second row, which is 2's where it is held.
+fn second_row(of: &SlowReading) -> (u32, u32) {
+    let row = of.reading.rows[1];
+    (row.declared_place, row.declared_number)
+}
+
+#[test]
+fn where_the_mornings_epochs_were_declared() {
+    let log = book(&[
+        b"\x0D\x01\x02urn:ep:2010",
+        b"\x03\x02P7",
+        b"\x0D\x01\x02urn:ep:2017",
+        b"\x03\x02P8",
+    ]);
+    let expected = [
+        [(0, 1), NONE],
+        [(109, 2), NONE],
+        [(123, 3), (109, 2)],
+        [(127, 4), NONE],
+        [(141, 5), (127, 4)],
+    ];
+    assert_eq!(reports(&items(&log)), expected);
+    // The row is declared with the data move, and not before.
+    let mut of = at(&log, 109);
+    for row in [
+        [(0, 0), (0, 0), (109, 2)],
+        [(109, 2), (109, 2), (109, 2)],
+        [(109, 2), (109, 2), (127, 4)],
+        [(127, 4), (127, 4), (127, 4)],
+    ] {
+        for declared in row {
+            of = moved(&of, &log);
+            assert_eq!(second_row(&of), declared);
+        }
+    }
+    // M12: P8's number is 4 then, and that of its declaration 3.
+    let mut buf = log.clone();
+    assert_eq!(erase(&mut buf, 145, 123), Ok(124));
+    let last = [(141, 4), (127, 3)];
+    assert_eq!(reports(&items(&buf)).pop(), Some(last));
+    assert_eq!(wipe(&mut buf, 145, 123, 9), Ok(3));
+    assert_eq!(reports(&items(&buf)).pop(), Some(last));
+}
+
+#[test]
+fn reassignments_and_removals_move_by_move() {
+    // Again with the same URI, gone, and there again.
+    let log = book(&[
+        &assigns(2, b"a:"),
+        b"\x01\x02",
+        &assigns(2, b"a:"),
+        b"\x01\x02",
+        &assigns(2, b""),
+        &assigns(2, b"b:"),
+        b"\x01\x02",
+    ]);
+    let expected = [
+        [(0, 1), NONE],
+        [(109, 2), NONE],
+        [(114, 3), (109, 2)],
+        [(116, 4), NONE],
+        [(121, 5), (116, 4)],
+        [(123, 6), NONE],
+        [(126, 7), NONE],
+        [(131, 8), (126, 7)],
+    ];
+    assert_eq!(reports(&items(&log)), expected);
+    let gone = at(&log, 126);
+    let unused = |row: &Row| *row == Row::default();
+    assert!(gone.reading.held == 2 && gone.reading.rows[2..].iter().all(unused));
+    assert_eq!(moved(&type_held(&log, 123), &log), gone);
+}
+
+#[test]
+fn an_assignment_reports_the_number_it_is_written_under() {
+    // 5 is declared at 109, 7 under it at 128; at 136 5 is assigned under itself.
+    let log = book(&[
+        &assigns(5, b"urn:lozizol:type"),
+        &record(5, b"\x07a:"),
+        b"\x02\x07P",
+        &record(5, b"\x05b:"),
+        b"\x02\x05Q",
+    ]);
+    let expected = [
+        [(0, 1), NONE],
+        [(109, 2), NONE],
+        [(128, 3), (109, 2)],
+        [(133, 4), (128, 3)],
+        [(136, 5), (109, 2)],
+        [(141, 6), (136, 5)],
+    ];
+    assert_eq!(reports(&items(&log)), expected);
+    // One that removes its own number.
+    let log = book(&[&assigns(5, b"urn:lozizol:type"), &record(5, b"\x05")]);
+    assert_eq!(reports(&items(&log))[2], [(128, 3), (109, 2)]);
+}
+
+#[test]
+fn a_later_header_move_by_move() {
+    let header = book(&[]);
+    let log = book(&[
+        &assigns(2, b"a:"),
+        &assigns(111, b"urn:lozizol:header"),
+        &header,
+        &header,
+        &assigns(2, b"b:"),
+        b"\x01\x02",
+    ]);
+    let expected = [
+        [(0, 1), NONE],
+        [(109, 2), NONE],
+        [(114, 3), NONE],
+        [(135, 4), (114, 3)],
+        [(244, 5), NONE],
+        [(353, 6), NONE],
+        [(358, 7), (353, 6)],
+    ];
+    assert_eq!(reports(&items(&log)), expected);
+    let mut first = at(&log, 109).reading;
+    (first.position, first.count) = (244, 4);
+    assert_eq!(moved(&type_held(&log, 135), &log), slow(&first));
+}
+
+#[test]
+fn erased_between_the_moves_it_is_counted_once_its_type_is_taken() {
+    // P at 114, then 3 is declared at 117 and used at 122.
+    let log = book(&[
+        &assigns(2, b"a:"),
+        b"\x02\x02P",
+        &assigns(3, b"b:"),
+        b"\x01\x03",
+    ]);
+    let before = at(&log, 114);
+    let size = moved(&before, &log);
+    let taken = moved(&size, &log);
+    for (of, number) in [
+        (&before, 3),
+        (&size, 3),
+        (&taken, 4),
+        (&moved(&taken, &log), 4),
+        (&at(&log, 122), 4),
+    ] {
+        let mut buf = log.clone();
+        assert_eq!(erase(&mut buf, 124, 114), Ok(115));
+        let mut of = of.clone();
+        while of.type_place != 123 || of.number == 0 {
+            of = moved(&of, &buf);
+        }
+        let (answer, _) = of.move_on(&buf, 124);
+        let Ok(Moved::Item(item)) = answer else {
+            panic!("{answer:?}");
+        };
+        assert_eq!(reports(&[item]), [[(122, number + 1), (117, number)]]);
+    }
+}
+
+#[test]
+fn the_bounds_of_where_a_row_was_declared() {
+    let log = twenty();
+    for of in [
+        &at(&log, 114),
+        &moved(&at(&log, 114), &log),
+        &type_held(&log, 114),
+    ] {
+        // The place is below the record's start, the number not 0.
+        for (place, number, fits) in [
+            (0, 0, false),
+            (0, 1, true),
+            (0, u32::MAX, true),
+            (109, 0, false),
+            (109, 1, true),
+            (113, 1, true),
+            (113, 0, false),
+            (114, 1, false),
+            (114, u32::MAX, false),
+            (115, 2, false), // below the end, but not below the position
+            (135, 2, false),
+            (136, 2, false),
+            (u32::MAX, 2, false),
+            (u32::MAX, 0, false),
+        ] {
+            let mut other = of.clone();
+            other.reading.rows[1].declared_place = place;
+            other.reading.rows[1].declared_number = number;
+            let (answer, next) = other.move_on(&log, 136);
+            assert_eq!(answer.is_ok(), fits, "{place} {number}");
+            assert!(fits || (answer, next) == (refused(13, 0), other));
+        }
+        // The implied rows and the unused ones have none of either.
+        for (index, place, number) in (0..32).filter(|&index| index != 1).flat_map(|index| {
+            [(0, 1), (1, 0), (1, 1)].map(|(place, number)| (index, place, number))
+        }) {
+            let mut odd = of.clone();
+            odd.reading.rows[index].declared_place = place;
+            odd.reading.rows[index].declared_number = number;
+            check_refused(&odd, &log, 13, 0);
+        }
+    }
+    // At place 0 too, where rows fit and aren't looked at.
+    let mut first = SlowReading::fresh();
+    first.reading.held = 1;
+    (first.reading.rows[0].number, first.reading.rows[0].implied) = (111, true);
+    assert!(first.move_on(&log, 136).0.is_ok());
+    for index in [0, 1, 31] {
+        let mut odd = first.clone();
+        odd.reading.rows[index].declared_number = 1;
+        check_refused(&odd, &log, 13, 0);
+    }
+}
+
+#[test]
+fn the_data_move_reports_the_row_as_it_is_handed_in_then() {
+    let log = twenty();
+    let taken = type_held(&log, 114);
+    for (place, number) in [(0, 1), (113, 7), (5, u32::MAX)] {
+        let mut of = taken.clone();
+        of.reading.rows[1].declared_place = place;
+        of.reading.rows[1].declared_number = number;
+        let (answer, next) = of.move_on(&log, 136);
+        let Ok(Moved::Item(item)) = answer else {
+            panic!("{answer:?}");
+        };
+        let declared = (place as usize, number as usize);
+        assert_eq!(reports(&[item]), [[(114, 3), declared]]);
+        assert_eq!(next.reading.rows, of.reading.rows);
+    }
+    // Numbers go on from the count as it is then.
+    let log = book(&[&assigns(2, b"a:")]);
+    for count in [0, 1, 7, 109] {
+        let mut of = type_held(&log, 109);
+        of.reading.count = count;
+        let next = moved(&of, &log);
+        assert_eq!(second_row(&next), (109, count as u32 + 1));
+        assert_eq!(next.reading.count, count + 1);
+    }
 }
 
 /// The numbers and URIs of generated logbooks.
@@ -1238,6 +1509,9 @@ fn moves_undisturbed_are_a_step() {
         if round % 3 != 0 {
             damage(&mut random, &mut log);
         }
+        if round % 3 == 0 {
+            check_declared(&log, &items(&log));
+        }
         let mut reading = Reading::fresh();
         loop {
             let (answer, next, moves) = check_against_step(&log, log.len(), &reading);
@@ -1303,6 +1577,12 @@ fn any_reading(random: &mut Random) -> SlowReading {
         if !row.implied {
             row.place = random.pick(&[0, 1, 107, 110, u32::MAX][..if odd { 5 } else { 3 }]);
             row.length = random.pick(&[1, 2, 2, 255, 256, u32::MAX][..if odd { 6 } else { 3 }]);
+            let places = [0, 1, 108, 109, 112, u32::MAX];
+            row.declared_place = random.pick(&places[..if odd { 6 } else { 3 }]);
+            row.declared_number = random.pick(&[1, 2, u32::MAX, 0][..if odd { 4 } else { 3 }]);
+        } else if odd && random.below(4) == 0 {
+            row.declared_place = random.pick(&[0, 1, u32::MAX]);
+            row.declared_number = random.pick(&[0, 1, u32::MAX]);
         }
     }
     let place = of.reading.position.min(126);
@@ -1379,8 +1659,28 @@ enum Call {
 /// The answer of a call: its result or its refusal. A move's isn't compared.
 type Answer = Result<(usize, usize), Refusal>;
 
-/// A live entry of the list: place, number, URI, data place and data.
-type Live = (usize, usize, Vec<u8>, usize, Vec<u8>);
+/// A live entry of the list: what it reports, URI, data place and data. 02 [6]: "in
+/// demand 3 both belong to the list".
+type Live = (Report, Vec<u8>, usize, Vec<u8>);
+
+/// What the list has of an item: a live entry alone.
+fn live(item: &Item) -> Option<Live> {
+    let Item::Entry {
+        uri,
+        data_place,
+        data,
+        ..
+    } = *item
+    else {
+        return None;
+    };
+    Some((
+        reports(&[*item])[0],
+        uri.to_vec(),
+        data_place,
+        data.to_vec(),
+    ))
+}
 
 /// A logbook and a slow reading of it, with the list so far.
 #[derive(Clone)]
@@ -1424,18 +1724,8 @@ impl Desk {
     fn move_on(&mut self) {
         let (answer, next) = self.reading.move_on(&self.buf, self.used);
         match answer.unwrap() {
-            Moved::Item(Item::Entry {
-                place,
-                number,
-                uri,
-                data_place,
-                data,
-                ..
-            }) if !self.ended => {
-                let (uri, data) = (uri.to_vec(), data.to_vec());
-                self.list.push((place, number, uri, data_place, data));
-            }
             Moved::Item(Item::End { .. }) => self.ended = true,
+            Moved::Item(item) if !self.ended => self.list.extend(live(&item)),
             _ => {}
         }
         self.reading = next;
@@ -1607,7 +1897,8 @@ fn answers_of_moves_need_not_agree() {
         }
     }
     assert_eq!(here.list, there.list);
-    let places: Vec<usize> = here.list.iter().map(|entry| entry.0).collect();
-    assert_eq!(places, [0, 109, 117]);
+    let reports: Vec<Report> = here.list.iter().map(|entry| entry.0).collect();
+    let expected = [[(0, 1), NONE], [(109, 2), NONE], [(117, 3), (109, 2)]];
+    assert_eq!(reports, expected);
     assert_eq!(here.reading, there.reading);
 }

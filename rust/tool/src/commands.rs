@@ -2,7 +2,7 @@
 
 use crate::arguments::{self, hexadecimal, Arguments, Known};
 use crate::trouble::Trouble;
-use crate::{file, help, shift, show, uuid};
+use crate::{declared, file, help, shift, show, uuid};
 use logbook::{raw, Logbook, Place, Refusal};
 use std::borrow::Cow;
 use std::ffi::OsString;
@@ -50,15 +50,17 @@ Writes `started`, the UUID and the used length, with a TAB between.
     },
     Command {
         name: "list",
-        usage: "list FILE",
+        usage: "list FILE [--declared]",
         summary: "lists the live entries of a logbook of at most 65,536 bytes",
         details: "\
 Writes place, number, URI and data length of each, with a TAB between, then `end` and the used
 length, or `refused`, number and place. A longer file gets `refused`, 1 and 0.
+With --declared each entry's line goes on with place and number of the assignment that gave its type
+number this URI, or 0 and 0 where a header implies it.
 ",
         is_change: false,
         options: &[],
-        switches: &[],
+        switches: &["--declared"],
         count: 1..=1,
         run: list,
     },
@@ -153,8 +155,8 @@ such records, `end` and the used length: a line each, with a TAB between.
         usage: "show FILE",
         summary: "shows the bytes of a logbook, record by record",
         details: "\
-Writes for each record its place, its number and the URI in force there, and a row for each of its
-parts: the place, the part's name, up to 16 bytes in hexadecimal, and what they say. Of padding only
+Writes for each record its place, its number, the URI in force there and the entry that declared it
+(none where a header implies it), and a row for each of its parts: the place, the part's name, up to 16 bytes in hexadecimal, and what they say. Of padding only
 the number of bytes is written. Where the logbook is refused, the record's first bytes are shown with
 ^^ below the byte at the refusal's place, and nothing behind.
 ",
@@ -259,6 +261,9 @@ fn new(arguments: &Arguments, out: &mut dyn Write) -> Done {
 
 fn list(arguments: &Arguments, mut out: &mut dyn Write) -> Done {
     let bytes = file::read(arguments.file(), raw::FILE_LIMIT)?;
+    if arguments.is_given("--declared") {
+        return declared::list(&bytes, out);
+    }
     match logbook::write_listing(&bytes, &mut out) {
         Ok(true) => Ok(()),
         Ok(false) => Err(Trouble::Listed),

@@ -3,6 +3,7 @@
 
 mod arguments;
 mod commands;
+mod declared;
 mod file;
 mod help;
 mod shift;

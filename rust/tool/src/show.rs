@@ -1,7 +1,7 @@
 //! The bytes of a logbook, record by record.
 
 use crate::trouble::Trouble;
-use logbook::{Entry, Item, Kind, Place, Refusal};
+use logbook::{Declared, Entry, Item, Kind, Place, Refusal};
 use std::fmt::Display;
 use std::io::{self, Write};
 
@@ -153,9 +153,12 @@ impl Dump<'_> {
     }
 }
 
-/// A live entry's number, its URI, and what an assignment does.
+/// A live entry's number, its URI, the entry that declared that, and what an assignment does.
 fn description(entry: &Entry<'_>) -> String {
-    let described = format!("entry {}, {}", entry.number, text(entry.uri));
+    let mut described = format!("entry {}, {}", entry.number, text(entry.uri));
+    if let Some(Declared { place, number }) = entry.declared {
+        described += &format!(", declared by entry {number} at {place}");
+    }
     match entry.kind {
         Kind::Assignment { number, uri: b"" } => format!("{described}, removes {number}"),
         Kind::Assignment { number, uri } => {

@@ -98,6 +98,41 @@ fn list() {
     ran.is(1, "refused\t1\t0\n", "");
 }
 
+/// Two columns more: the assignment that declared the number, 0 and 0 where a header implies it.
+#[test]
+fn list_declared() {
+    let folder = Folder::with_morning("list_declared");
+    folder.run(&["list", "--declared", "morning.loz"]).done(
+        "0\t1\turn:lozizol:header\t107\t0\t0\n\
+         109\t2\turn:lozizol:type\t12\t0\t0\n\
+         123\t3\turn:ep:2010\t2\t109\t2\n\
+         127\t4\turn:lozizol:type\t12\t0\t0\n\
+         141\t5\turn:ep:2017\t2\t127\t4\n\
+         end\t145\n",
+    );
+    folder
+        .run(&["erase", "morning.loz", "123"])
+        .done("erased\t124\n");
+    let ran = folder.run(&["list", "morning.loz", "--declared"]);
+    assert!(ran
+        .out
+        .ends_with("141\t4\turn:ep:2017\t2\t127\t3\nend\t145\n"));
+    let mut bytes = folder.read("morning.loz");
+    folder.write("torn.loz", &bytes[..142]);
+    let ran = folder.run(&["list", "torn.loz", "--declared"]);
+    assert!(ran.status == 1 && ran.err.is_empty());
+    assert!(ran
+        .out
+        .ends_with("127\t3\turn:lozizol:type\t12\t0\t0\nrefused\t2\t141\n"));
+    folder
+        .run(&["list", "torn.loz", "--declared=yes"])
+        .wrong("--declared takes no value; usage: logbook list FILE [--declared]");
+    bytes.resize(65_537, 0);
+    folder.write("long.loz", &bytes);
+    let ran = folder.run(&["list", "long.loz", "--declared"]);
+    ran.is(1, "refused\t1\t0\n", "");
+}
+
 #[test]
 fn append() {
     let folder = Folder::with_morning("append");

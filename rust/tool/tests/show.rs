@@ -22,7 +22,7 @@ const MORNING: &str = "\
        110  type    01                                               1
        111  number  02                                               2
        112  uri     75 72 6e 3a 65 70 3a 32 30 31 30                 |urn:ep:2010|
-123: entry 3, urn:ep:2010
+123: entry 3, urn:ep:2010, declared by entry 2 at 109
        123  size    03                                               3
        124  type    02                                               2
        125  data    50 37                                            |P7|
@@ -31,7 +31,7 @@ const MORNING: &str = "\
        128  type    01                                               1
        129  number  02                                               2
        130  uri     75 72 6e 3a 65 70 3a 32 30 31 37                 |urn:ep:2017|
-141: entry 5, urn:ep:2017
+141: entry 5, urn:ep:2017, declared by entry 4 at 127
        141  size    03                                               3
        142  type    02                                               2
        143  data    50 38                                            |P8|
@@ -78,7 +78,7 @@ fn padding_deleted_records_and_removals() {
        280  size    03                                               3
        281  type    01                                               1
        282  number  81 00                                            128
-284: entry 7, urn:ep:2017
+284: entry 7, urn:ep:2017, declared by entry 4 at 127
        284  size    01                                               1
        285  type    02                                               2
 286: end
@@ -101,7 +101,7 @@ fn numbers_of_nine_bytes() {
        146  type    01                                               1
        147  number  ff ff ff ff ff ff ff ff 7f                       9223372036854775807
        156  uri     61 3a                                            |a:|
-158: entry 7, a:
+158: entry 7, a:, declared by entry 6 at 145
        158  size    0b                                               11
        159  type    ff ff ff ff ff ff ff ff 7f                       9223372036854775807
        168  data    50 39                                            |P9|

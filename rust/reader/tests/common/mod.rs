@@ -1,4 +1,5 @@
-//! What the tests write and expect: numbers, records, a logbook, a refusal, chance.
+//! What the tests write and expect: numbers, records, a logbook, a refusal, where
+//! entries were declared, chance.
 
 use reader::*;
 
@@ -40,6 +41,63 @@ pub fn assigns(number: u64, uri: &[u8]) -> Vec<u8> {
 
 pub fn refused<T>(number: u8, place: usize) -> Result<T, Refusal> {
     Err(Refusal { number, place })
+}
+
+/// What a live entry reports of itself and of where it was declared: its place and
+/// number, and those of the record that assigned its type number.
+pub type Report = [(usize, usize); 2];
+
+/// The reports of the live entries of a list.
+pub fn reports(list: &[Item]) -> Vec<Report> {
+    let live = list.iter().filter_map(|item| match *item {
+        Item::Entry {
+            place,
+            number,
+            declared_place,
+            declared_number,
+            ..
+        } => Some([(place, number), (declared_place, declared_number)]),
+        _ => None,
+    });
+    live.collect()
+}
+
+/// The integer at the front of these bytes, and the bytes behind it.
+fn integer(bytes: &[u8]) -> (u64, &[u8]) {
+    let last = bytes.iter().position(|&byte| byte < 0x80).unwrap();
+    let digits = bytes[..=last].iter().map(|byte| u64::from(byte % 0x80));
+    let value = digits.fold(0, |value, digit| value * 128 + digit);
+    (value, &bytes[last + 1..])
+}
+
+/// Whether each live entry of the list of `log` reports the latest assignment of
+/// its type number before it, as the list has that one, or none where there is a
+/// header behind that or there is no such one; and whether they are counted.
+pub fn check_declared(log: &[u8], list: &[Item]) {
+    let live: Vec<&Item> = list
+        .iter()
+        .filter(|item| matches!(item, Item::Entry { .. }))
+        .collect();
+    for (index, report) in reports(list).into_iter().enumerate() {
+        let [(place, number), declared] = report;
+        assert_eq!(number, index + 1);
+        let (_, body) = integer(&log[place..]);
+        let (held, _) = integer(body);
+        let latest = live[..index].iter().rev().find_map(|before| match before {
+            Item::Entry {
+                kind: Kind::Header, ..
+            } => Some((0, 0)),
+            Item::Entry {
+                kind: Kind::Assignment,
+                place,
+                number,
+                data,
+                ..
+            } if integer(data).0 == held => Some((*place, *number)),
+            _ => None,
+        });
+        assert_eq!(declared, latest.unwrap_or((0, 0)), "{place} {list:?}");
+    }
 }
 
 /// A small generator, so that each run is the same.

@@ -7,20 +7,20 @@ use mathlib.Core.Option.{Option, none, some, Option·map}
 use Prim.Native.Nat.{ℕ, zero, suc, pred, _+_, _-_}
 use native.Mathlib.Omega.{arith}
 use native.Mathlib.Nat.{add-zero}
-use borrow.Author.Tests.{eqb-true, ne-eqb, eq-eqb, le-leb, leb-true, lt-ltb, ltb-true, le-ltb, not-true}
+use borrow.Author.Tests.{eqb-true, ne-eqb, le-leb, leb-true, lt-ltb, ltb-true, le-ltb, not-true}
 use lib.ListN.{length, drop}
 use lib.Dec.{leb, ltb, eqb}
 use Rattle.format.specs.Bytes.{partOf}
 use Rattle.format.specs.Figures.{sizeBytes, numberBytes}
 use Rattle.format.specs.Laws.Cases.{by-test, true-false, and-false, and-left, and-right}
 use Rattle.format.specs.Integers.{Integer, value, broken, notOver, readInteger}
-use Rattle.format.specs.Register.{Row, Named, Names, find, isHeld, heldRows, numberOf, namedNumber, namedUri, seenIn, uriOf}
+use Rattle.format.specs.Register.{Named, Names, find, isHeld, heldRows, numberOf, namedNumber, namedUri, nameIn, uriOf}
 use Rattle.format.specs.Laws.Register.{seen-find, find-below}
 use Rattle.format.specs.Records.{Refusal, Got, bad, got, dataPart, headerAt, Origin, atHeader}
 use Rattle.format.specs.Reading.{Reading, fits, namesIn, moved, atEnd}
 use Rattle.format.specs.Calls.{Book, usedBytes, sound, parted}
-use Rattle.format.specs.Moves.{sizeOf, typeHeld, typeOf, Held, nothing, sized, typed, heldOf, Slow, slow, fitSized, fitTyped, fitHeld, fitsSlow, Moved, doneWith, sizeMove, typeMove, dataMove, elementMove, firstMove, moveAt, move, moveOn}
-use Rattle.format.specs.Refusals.{firstOf, InTable, uriUnder, sizeAt, isIncomplete, leadsWith80, isTooLong, isPastSize, notHeld, dataRules, headerRules, elementRules, Fitting, FitSize, FitType, FitNumbers, noneHeld, sizeHeld, typeHeld as typeKept, FittingSlow, sizeRules, typeRules, heldRules, moveRules, refusalOfGot, refusalOfTold}
+use Rattle.format.specs.Moves.{sizeOf, typeHeld, typeOf, Held, nothing, sized, typed, heldOf, Slow, slow, fitSized, fitTyped, fitHeld, fitsSlow, doneWith, sizeMove, typeMove, dataMove, elementMove, firstMove, moveAt, move, moveOn}
+use Rattle.format.specs.Refusals.{firstOf, InTable, uriUnder, sizeAt, isIncomplete, isTooLong, isPastSize, notHeld, dataRules, headerRules, elementRules, FitSize, FitType, FitNumbers, noneHeld, sizeHeld, typeHeld as typeKept, FittingSlow, sizeRules, typeRules, heldRules, moveRules, refusalOfGot, refusalOfTold}
 use Rattle.format.specs.Laws.Denials.Integers.{ByTests, leading, long, short, over, read-tests}
 use Rattle.format.specs.Laws.Denials.Items.{first-on, first-here, none-some, over-not, positive, data-refusal, header-refusal, Numbered, first-numbered, numbered, numbered-none, element-numbered}
 use Rattle.format.specs.Laws.Denials.Fits.{both, fits-mean}
@@ -35,7 +35,7 @@ pub held-named : (log : List ℕ) (r : Reading) (n : ℕ) → isHeld (find numbe
     → (y : Named) × (find namedNumber n (namesIn log r) ≡ some y)
 held-named log r n e =
     let x = held-some (find numberOf n (heldRows (r .table))) e in
-    (seenIn log (x .0), seen-find log n (heldRows (r .table)) ∙ ap (Option·map (seenIn log)) (x .1))
+    (nameIn log (x .0), seen-find log n (heldRows (r .table)) ∙ ap (Option·map (nameIn log)) (x .1))
 
 held-under : (r : Reading) (used n : ℕ) (g : Names) (y : Named) → fits r used ≡ true → isHeld (find numberOf n (heldRows (r .table))) ≡ true
     → find namedNumber n g ≡ some y → uriUnder n g ≡ some (namedUri y)

@@ -6,8 +6,8 @@ use Prim.Native.Nat.{ℕ, zero, suc, pred, _+_, _≤_}
 use native.Mathlib.Omega.{arith}
 use native.Mathlib.Nat.{add-zero, zero-add, suc-add, add-suc}
 use borrow.Author.Tests.{eqb-true}
-use lib.ListN.{length, drop, set}
-use Rattle.format.specs.Figures.{usedLimit}
+use lib.ListN.{length, take, drop, set}
+use Rattle.format.specs.Figures.{usedLimit, numberBytes}
 use Rattle.format.specs.Laws.Cases.{by-test, from-zero-one}
 use Rattle.format.specs.Laws.Bytes.{same-equal}
 use Rattle.format.specs.Uris.{typeName, headerName}
@@ -15,20 +15,21 @@ use Rattle.format.specs.Register.{Names, namedUri}
 use Rattle.format.specs.Records.{plain, header, assignment, Entry, Item, padding, deleted, live, Got, bad, got, element, logbook, atHeader, item}
 use Rattle.format.specs.Reading.{here, look}
 use Rattle.format.specs.Calls.{Book, parts, bookOf, sound, Call, erase, eraseEntry, eraseItem, eraseLooked, call, called, callOn}
-use Rattle.format.specs.Grammar.{Listed, listedAt}
+use Rattle.format.specs.Grammar.{Listed, listedAt, Writing}
 use Rattle.format.specs.Entries.{told, entriesOf, Rises, EraseAnswer, goes, headerStays, typeStays}
 use Rattle.format.specs.Laws.Order.Items.{got-item, Judgement, gone, entry, heading, assigning, judgement, Form, form, size-form, past-start, item-element, item-header, look-here, look-on, look-start}
 use Rattle.format.specs.Laws.Order.Changes.{headEntry, head-item}
 use Rattle.format.specs.Laws.Order.Runs.{sound-book, parted-book}
 use Rattle.format.specs.Laws.Lists.Rolls.{roll, roll-got, roll-bad}
-use Rattle.format.specs.Laws.Lists.Parsing.{other-name}
+use Rattle.format.specs.Laws.Lists.Parsing.{other-name, read-writing}
 use Rattle.format.specs.Laws.Lists.Steps.{entries-roll, on-sound}
 
--- ---- a live entry stands at its place, and its kind goes by its URI
+-- ---- a live entry stands at its place, and its kind goes by its URI; of an assignment also by its data: a number, then a URI
 pub data Sort (e : Entry) : Type 0 where
   plainly : e .kind ≡ plain → (e .uri ≡ headerName → ⊥) → (e .uri ≡ typeName → ⊥) → Sort e
   asHeader : e .kind ≡ header → e .uri ≡ headerName → Sort e
-  asType : (n a : ℕ) (u : List ℕ) → e .kind ≡ assignment n a u → e .uri ≡ typeName → Sort e
+  asType : (n m : ℕ) → e .kind ≡ assignment n (e .dataPlace + m) (drop m (e .bytes)) → e .uri ≡ typeName → Writing numberBytes (take m (e .bytes)) n
+      → Sort e
 
 abbrev pub Tells : ℕ → Entry → Type 0
 Tells p e = (e .place ≡ p) × Sort e
@@ -47,7 +48,7 @@ judged-tells p k w b n g h i m e v (gone j r) = not-deleted v
 judged-tells p k w b n g h i m e v (entry a j u r s x y) = subst (Tells p) (live-entry v) (refl, plainly refl (other-name (namedUri u) headerName x) (other-name (namedUri u) typeName y))
 judged-tells p k w b n g h i m e v (heading a j u r s x f) = subst (Tells p) (live-entry v) (refl, asHeader refl (same-equal (namedUri u) headerName x))
 judged-tells p k w b n g h i m e v (assigning a j c l u r s x y q f z) =
-    subst (Tells p) (live-entry v) (refl, asType (suc c) (p + k + j + l) (drop l (drop j b)) refl (same-equal (namedUri u) typeName y))
+    subst (Tells p) (live-entry v) (refl, asType (suc c) l refl (same-equal (namedUri u) typeName y) (read-writing (drop j b) (suc c) l q))
 
 form-tells : (g h : Names) (p n : ℕ) (l : List ℕ) (e : Entry) → Form g p l (live e) n h → Tells p e
 form-tells g h p n l e (form a b ys c m j z) =
@@ -95,7 +96,7 @@ roll-rises zero g p (x ∷ l) = rw add-zero (go (λ n h. roll-rises n h (suc p) 
 pub places-rise : (b : Book) → sound b ≡ true → Rises 0 (entriesOf b)
 places-rise b e = on-sound (λ (c : Book). Rises 0 (entriesOf c)) (λ l rest s. rw (entries-roll l rest s) (roll-rises 0 [] 0 l)) b e
 
-not-nil : {P : Type 0} (xs ys : List Listed) (e : Listed) → [] ≡ xs ++ (e ∷ ys) → P
+pub not-nil : {A P : Type 0} (xs ys : List A) (e : A) → [] ≡ xs ++ (e ∷ ys) → P
 not-nil [] ys e q = from-zero-one (cc)
 not-nil (x ∷ xs) ys e q = from-zero-one (cc)
 
@@ -195,7 +196,7 @@ answer-of l rest b q u c f (plainly k x y) =
     goes (f .entry .typePlace) (bookOf (parts (set l (f .entry .typePlace) 0) rest)) (λ e. x (sym (f .named) ∙ e)) (λ e. y (sym (f .named) ∙ e))
     (call-sound (erase q) l rest b ∙ rw (erase-found q l rest u c f, k))
 answer-of l rest b q u c f (asHeader k x) = headerStays (f .named ∙ x) (call-sound (erase q) l rest b ∙ rw (erase-found q l rest u c f, k))
-answer-of l rest b q u c f (asType n a v k x) = typeStays (f .named ∙ x) (call-sound (erase q) l rest b ∙ rw (erase-found q l rest u c f, k))
+answer-of l rest b q u c f (asType n m k x w) = typeStays (f .named ∙ x) (call-sound (erase q) l rest b ∙ rw (erase-found q l rest u c f, k))
 
 answers-at : (l rest : List ℕ) → length l ≤ usedLimit → (q : ℕ) (u c : List ℕ) (xs ys : List Listed) → entriesOf (bookOf (parts l rest)) ≡ xs ++ (listedAt q u c ∷ ys) → EraseAnswer (bookOf (parts l rest)) q u
 answers-at l rest b q u c xs ys e =

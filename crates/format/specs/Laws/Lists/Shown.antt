@@ -16,19 +16,20 @@ use Rattle.format.specs.Figures.{sizeBytes, numberBytes, headerLength}
 use Rattle.format.specs.Integers.{value, readInteger}
 use Rattle.format.specs.Laws.Integers.{read-exact}
 use Rattle.format.specs.Uris.{typeName, headerName}
-use Rattle.format.specs.Register.{find, Row, numberOf, heldRows, uriIn, impliedRow, impliedName, Named, implied, Names, namedNumber, namedUri, seenIn, rowFor}
-use Rattle.format.specs.Laws.Register.{find-number, InsideRow, seen-find, seen-uri, seen-row, some-some}
+use Rattle.format.specs.Register.{find, Row, KeptRow, numberOf, heldRows, uriIn, impliedRow, impliedName, Named, implied, Names, namedNumber, namedUri, nameIn, rowFor}
+use Rattle.format.specs.Laws.Register.{find-number, InsideKept, seen-find, seen-uri, seen-row, some-some}
 use Rattle.format.specs.Records.{Entry, entryOf, Kind, header, Refusal, refusal, Item, padding, deleted, live, Got, bad, got, element, headerAt, logbook, atHeader, item}
-use Rattle.format.specs.Reading.{Reading, fits, fitRows, namesIn, counted, numbered, shown, end, refused, Stepped, stepped, moved, atEnd, stepAt, step}
-use Rattle.format.specs.Calls.{Book, usedBytes, parted, isWithin, sound, stepOn, inNames, inLog, resolveRow, resolve, noUri, uriThere}
+use Rattle.format.specs.Reading.{Reading, fits, namesIn, counted, declaredIn, Report, reportOf, shown, end, refused, Stepped, stepped, declaredBy, tableAfter, declaration, moved, atEnd, stepAt, step}
+use Rattle.format.specs.Calls.{Book, usedBytes, parted, isWithin, sound, stepOn, inNames, inLog, resolveRow, fitAlone, resolve, noUri, uriThere}
 use Rattle.format.specs.Laws.Calls.{used-long}
 use Rattle.format.specs.Refusals.{Fitting}
-use Rattle.format.specs.Laws.Denials.Fits.{fits-mean, fit-inside, alone-fits, row-fits, row-fits-alone}
+use Rattle.format.specs.Laws.Denials.Fits.{fits-mean, fit-inside, alone-fits, row-inside, declared-found, row-fits-alone}
 use Rattle.format.specs.Grammar.{RecordOf, writing, High, NoEmptyLead, leadsValue}
 use Rattle.format.specs.Shapes.{HeaderShape}
 use Rattle.format.specs.Entries.{EntryAt, ItemAt, aPadding, aDeleted, anEntry, Counted, Shows, Ends, RowFrom, ofHeader, ofReading, RowShown}
 use Rattle.format.specs.Laws.Order.Items.{got-item, got-bytes, Judgement, gone, entry, heading, assigning, judgement, Sizes, Form, form, size-form, item-element, item-header, item-exact}
-use Rattle.format.specs.Laws.Order.Changes.{headEntry, head-item, rows-number}
+use Rattle.format.specs.Laws.Order.Standing.{rows-number}
+use Rattle.format.specs.Laws.Order.Changes.{headEntry, head-item}
 use Rattle.format.specs.Laws.Lists.Shapes.{header-long, shape-header}
 use Rattle.format.specs.Laws.Lists.Parsing.{record-read, head-got, first-two}
 use Rattle.format.specs.Laws.Lists.Numbers.{Counts, step-counts, refused-shown, shown-item, end-shown}
@@ -118,21 +119,22 @@ item-at l g h p x n xs i d e =
     at-element (suc x) d e = form-at l p (suc x) xs d g h n i (size-form g h p n (suc x ∷ xs) i e)
 
 -- ---- a step that shows an item: it was neither refused nor at the end
-record Looked (b : Book) (r r1 : Reading) (i : Item) : Type 0 where
-  isSound : sound b ≡ true
-  isFit : fits r (length (usedBytes b)) ≡ true
-  byte : ℕ
-  bytes : List ℕ
-  behind : ℕ
-  names : Names
-  here : drop (r .position) (usedBytes b) ≡ byte ∷ bytes
-  gets : item logbook (namesIn (usedBytes b) r) (r .position) byte bytes ≡ got i behind names
-  moves : r1 .position ≡ r .position + suc behind
+pub record Looked (b : Book) (r r1 : Reading) (i : Item) : Type 0 where
+  pub isSound : sound b ≡ true
+  pub isFit : fits r (length (usedBytes b)) ≡ true
+  pub byte : ℕ
+  pub bytes : List ℕ
+  pub behind : ℕ
+  pub names : Names
+  pub here : drop (r .position) (usedBytes b) ≡ byte ∷ bytes
+  pub gets : item logbook (namesIn (usedBytes b) r) (r .position) byte bytes ≡ got i behind names
+  pub moves : r1 .position ≡ r .position + suc behind
+  pub table : r1 .table ≡ tableAfter i (declaration i r) (r .table)
 
 answer-of : {s t : Stepped} → s ≡ t → s .answer ≡ t .answer
 answer-of e = ap (λ (s : Stepped). s .answer) e
 
-module _ (b : Book) (r r1 : Reading) (i : Item) (n : ℕ) where
+module _ (b : Book) (r r1 : Reading) (i : Item) (n : Report) where
   looked-got : (s : sound b ≡ true) (f : fits r (length (usedBytes b)) ≡ true) (x : ℕ) (xs : List ℕ) → drop (r .position) (usedBytes b) ≡ x ∷ xs
       → (v : Got) → item logbook (namesIn (usedBytes b) r) (r .position) x xs ≡ v → moved v r ≡ stepped (shown i n) r1 → Looked b r r1 i
   unfolding moved
@@ -149,6 +151,7 @@ module _ (b : Book) (r r1 : Reading) (i : Item) (n : ℕ) where
         here = d;
         gets = q ∙ rw z;
         moves = sym (ap (λ (t : Stepped). t .reading .position) e);
+        table = sym (ap (λ (t : Stepped). t .reading .table) e) ∙ ap (λ (k : Item). tableAfter k (declaration k r) (r .table)) z;
       }
 
   looked-at : (s : sound b ≡ true) (f : fits r (length (usedBytes b)) ≡ true) (xs : List ℕ) → drop (r .position) (usedBytes b) ≡ xs
@@ -158,7 +161,7 @@ module _ (b : Book) (r r1 : Reading) (i : Item) (n : ℕ) where
       end-shown (atHeader logbook (r .position)) (refusal 2 0) (r .position) (answer-of e)
   looked-at s f (x ∷ xs) d e = looked-got s f x xs d (item logbook (namesIn (usedBytes b) r) (r .position) x xs) refl e
 
-  looked : stepOn logbook b r ≡ stepped (shown i n) r1 → Looked b r r1 i
+  pub looked : stepOn logbook b r ≡ stepped (shown i n) r1 → Looked b r r1 i
   unfolding stepOn step parted
   looked e =
       by-test (sound b)
@@ -171,12 +174,13 @@ book-long : (b : Book) → sound b ≡ true → length (usedBytes b) ≡ b .used
 unfolding sound
 book-long b s = used-long (b .buffer) (b .used) s
 
-counted-as : (i : Item) (c n c1 : ℕ) → (n ≡ numbered i c) × (c1 ≡ counted i c) → Counted i c n c1
-counted-as (padding p) c n c1 k = k
-counted-as (deleted p j s) c n c1 k = k
-counted-as (live e) c n c1 k = k
+counted-as : (i : Item) (r : Reading) (n : Report) (c1 : ℕ) → (n ≡ reportOf i r) × (c1 ≡ counted i (r .count)) → Counted i (r .count) n c1
+unfolding declaredBy
+counted-as (padding p) r n c1 k = k
+counted-as (deleted p j s) r n c1 k = k
+counted-as (live e) r n c1 k = (ap (λ (x : Report). x .number) (k .0), k .1)
 
-pub step-shows : (b : Book) (r r1 : Reading) (i : Item) (n : ℕ) → stepOn logbook b r ≡ stepped (shown i n) r1 → Shows b r r1 i n
+pub step-shows : (b : Book) (r r1 : Reading) (i : Item) (n : Report) → stepOn logbook b r ≡ stepped (shown i n) r1 → Shows b r r1 i n
 step-shows b r r1 i n e =
     let k = looked b r r1 i n e in
     let m = k .moves in
@@ -186,11 +190,11 @@ step-shows b r r1 i n e =
       moves = omega arith;
       within = omega (arith, length-drop (r .position) (usedBytes b), book-long b (k .isSound));
       stands = rw m (item-at (usedBytes b) (namesIn (usedBytes b) r) (k .names) (r .position) (k .byte) (k .behind) (k .bytes) i (k .here) (k .gets));
-      counts = counted-as i (r .count) n (r1 .count) (subst (Counts (r .count)) e (step-counts b r) i n refl);
+      counts = counted-as i r n (r1 .count) (subst (Counts r) e (step-counts b r) i n refl);
     }
 
 -- ---- the end
-shown-end : {P : Type 0} {i : Item} {n p : ℕ} → shown i n ≡ end p → P
+shown-end : {P : Type 0} {i : Item} {n : Report} {p : ℕ} → shown i n ≡ end p → P
 shown-end e = from-zero-one (cc)
 
 refused-end : {P : Type 0} {x : Refusal} {p : ℕ} → refused x ≡ end p → P
@@ -239,7 +243,7 @@ module _ (b : Book) (s : sound b ≡ true) (x : Row) where
   unfolding uriIn
   row-there = by-test (x .implied) (λ e. rw e (implied-there (x .number))) (λ e. rw e)
 
-  resolved : fitRows 0 (b .used) (x ∷ []) ≡ true → uriThere (usedBytes b) (resolve (length (b .buffer)) (b .used) x) ≡ some (uriIn (usedBytes b) x)
+  resolved : fitAlone (b .used) x ≡ true → uriThere (usedBytes b) (resolve (length (b .buffer)) (b .used) x) ≡ some (uriIn (usedBytes b) x)
   unfolding resolve sound
   resolved f = rw (s, f) row-there
 
@@ -258,52 +262,56 @@ pub resolved-inside : (len used : ℕ) (r : Row) (p n : ℕ) → resolve len use
 unfolding resolve
 resolved-inside len used r p n e =
     by-test (isWithin len used)
-    (λ s. by-test (fitRows 0 used (r ∷ []))
+    (λ s. by-test (fitAlone used r)
     (λ f. by-test (r .implied)
     (λ i. names-inside (eqb (r .number) 1) (rw (s, f, i) at e))
     (λ i. let q = log-place (rw (s, f, i) at e) in omega (arith, q .0, q .1, fit-inside used used r (omega arith) (alone-fits used r f) .within)))
     (λ f. not-inside (rw (s, f) at e)))
     (λ s. not-inside (rw s at e))
 
+-- the row of an entry, and what the reading reports of it
+abbrev Rowed : Book → Reading → Entry → Type 0
+Rowed b r e = RowShown b r e (declaredIn (e .row) (heldRows (r .table)))
+
 module _ (b : Book) (r : Reading) (s : sound b ≡ true) (f : fits r (length (usedBytes b)) ≡ true) (past : 1 ≤ r .position) where
   fitting : Fitting r (b .used)
   fitting = fits-mean r (b .used) .0 (rw (book-long b s) at f)
 
   -- of a name that the register has, the row is the reading's
-  row-named : (n : ℕ) (y : Named) → 1 ≤ n → (v : Option Row) → find numberOf n (heldRows (r .table)) ≡ v → Option·map (seenIn (usedBytes b)) v ≡ some y → (e : Entry) → e .row ≡ rowFor y → e .uri ≡ namedUri y
-      → RowShown b r e
+  row-named : (n : ℕ) (y : Named) → 1 ≤ n → (v : Option KeptRow) → find numberOf n (heldRows (r .table)) ≡ v → Option·map (nameIn (usedBytes b)) v ≡ some y → (e : Entry) → e .row ≡ rowFor y → e .uri ≡ namedUri y
+      → Rowed b r e
   row-named n y o none q z e u w = from-zero-one (cc)
   row-named n y o (some x) q z e u w =
-      let t : seenIn (usedBytes b) x ≡ y = some-some z in
-      let k = row-fits r (b .used) n x fitting q in
-      let m : InsideRow (length (usedBytes b)) x = fit-inside (r .position) (length (usedBytes b)) x (omega (arith, fitting .within, book-long b s)) k in
-      let a : e .row ≡ x = u ∙ ap rowFor (sym t) ∙ seen-row (usedBytes b) x m in
-      let c : uriIn (usedBytes b) x ≡ e .uri = sym (w ∙ ap namedUri (sym t) ∙ seen-uri (usedBytes b) x) in
-      let j : find numberOf (x .number) (heldRows (r .table)) ≡ some x = ap (λ (i : ℕ). find numberOf i (heldRows (r .table))) (find-number numberOf n (heldRows (r .table)) x q) ∙ q in
+      let t : nameIn (usedBytes b) x ≡ y = some-some z in
+      let m : InsideKept (length (usedBytes b)) x = rw (book-long b s) (row-inside r (b .used) n x fitting q) in
+      let a : e .row ≡ x .row = u ∙ ap rowFor (sym t) ∙ seen-row (usedBytes b) (x .row) (m .row) in
+      let c : uriIn (usedBytes b) (x .row) ≡ e .uri = sym (w ∙ ap namedUri (sym t) ∙ seen-uri (usedBytes b) (x .row)) in
+      let j : find numberOf (numberOf x) (heldRows (r .table)) ≡ some x = ap (λ (i : ℕ). find numberOf i (heldRows (r .table))) (find-number numberOf n (heldRows (r .table)) x q) ∙ q in
+      let d : x .declared ≡ declaredIn (x .row) (heldRows (r .table)) = sym (declared-found n x (heldRows (r .table)) _ m q) in
       record {
-        from = subst (RowFrom r) (sym a) (ofReading x past j);
+        from = subst (λ (i : Row). RowFrom r i (declaredIn i (heldRows (r .table)))) (sym a) (subst (RowFrom r (x .row)) d (ofReading x past j));
         gave = ap (uriIn (usedBytes b)) a ∙ c;
         again = ap (λ (i : Row). uriThere (usedBytes b) (resolve (length (b .buffer)) (b .used) i)) a
-            ∙ resolved b s x (row-fits-alone r (b .used) n x fitting q o) ∙ ap (λ (i : List ℕ). some i) c;
+            ∙ resolved b s (x .row) (row-fits-alone r (b .used) n x fitting q o) ∙ ap (λ (i : List ℕ). some i) c;
       }
 
-  named-row : (a : ℕ) (y : Named) (p t c : ℕ) (k : Kind) (d : List ℕ) (e : Entry) → live (entryOf p t k y c d) ≡ live e → find namedNumber (suc a) (namesIn (usedBytes b) r) ≡ some y → RowShown b r e
+  named-row : (a : ℕ) (y : Named) (p t c : ℕ) (k : Kind) (d : List ℕ) (e : Entry) → live (entryOf p t k y c d) ≡ live e → find namedNumber (suc a) (namesIn (usedBytes b) r) ≡ some y → Rowed b r e
   named-row a y p t c k d e v q =
       let z = sym (live-entry v) in
       row-named (suc a) y (omega arith) (find numberOf (suc a) (heldRows (r .table))) refl (sym (seen-find (usedBytes b) (suc a) (heldRows (r .table))) ∙ q) e
       (ap (λ (u : Entry). u .row) z) (ap (λ (u : Entry). u .uri) z)
 
-  judged-row : (p k : ℕ) (w c : List ℕ) (n : ℕ) (h : Names) (i : Item) (m : ℕ) (e : Entry) → i ≡ live e → Judgement p k w c n (namesIn (usedBytes b) r) i m h → RowShown b r e
+  judged-row : (p k : ℕ) (w c : List ℕ) (n : ℕ) (h : Names) (i : Item) (m : ℕ) (e : Entry) → i ≡ live e → Judgement p k w c n (namesIn (usedBytes b) r) i m h → Rowed b r e
   judged-row p k w c n h i m e v (gone j x) = not-deleted v
   judged-row p k w c n h i m e v (entry a j y x q z t) = named-row a y _ _ _ _ _ e v q
   judged-row p k w c n h i m e v (heading a j y x q z t) = named-row a y _ _ _ _ _ e v q
   judged-row p k w c n h i m e v (assigning a j l o y x q z t u1 u2 u3) = named-row a y _ _ _ _ _ e v q
 
-  form-row : (p n : ℕ) (l : List ℕ) (h : Names) (e : Entry) → Form (namesIn (usedBytes b) r) p l (live e) n h → RowShown b r e
+  form-row : (p n : ℕ) (l : List ℕ) (h : Names) (e : Entry) → Form (namesIn (usedBytes b) r) p l (live e) n h → Rowed b r e
   form-row p n l h e (form a c ys d m j z) =
       judged-row p (length a) (a ++ c) c (pred (length a + length c)) h (live e) n e refl (judgement p (length a) (a ++ c) c (pred (length a + length c)) (namesIn (usedBytes b) r) j)
 
-  element-row : (p x n : ℕ) (xs : List ℕ) (h : Names) (e : Entry) → element (namesIn (usedBytes b) r) p x xs ≡ got (live e) n h → RowShown b r e
+  element-row : (p x n : ℕ) (xs : List ℕ) (h : Names) (e : Entry) → element (namesIn (usedBytes b) r) p x xs ≡ got (live e) n h → Rowed b r e
   unfolding element
   element-row p zero n xs h e q = not-padding (got-item q)
   element-row p (suc x) n xs h e q = form-row p n (suc x ∷ xs) h e (size-form (namesIn (usedBytes b) r) h p n (suc x ∷ xs) (live e) q)
@@ -312,17 +320,19 @@ past-header : (p : ℕ) → atHeader logbook p ≡ false → 1 ≤ p
 past-header zero e = true-false e
 past-header (suc p) e = omega arith
 
-header-row : (b : Book) (r : Reading) → sound b ≡ true → (l : List ℕ) (e : Entry) → r .position ≡ 0 → live e ≡ live (headEntry l) → RowShown b r e
-unfolding uriIn fitRows
+header-row : (b : Book) (r : Reading) → sound b ≡ true → (l : List ℕ) (e : Entry) → r .position ≡ 0 → live e ≡ live (headEntry l) → Rowed b r e
+unfolding uriIn fitAlone declaredIn
 header-row b r s l e z v =
-    subst (RowShown b r) (sym (live-entry v))
+    subst (Rowed b r) (sym (live-entry v))
     (record { from = ofHeader z; gave = refl; again = resolved b s (impliedRow 111) refl })
 
-pub step-row : (b : Book) (r r1 : Reading) (e : Entry) (n : ℕ) → stepOn logbook b r ≡ stepped (shown (live e) n) r1 → RowShown b r e
+pub step-row : (b : Book) (r r1 : Reading) (e : Entry) (n : Report) → stepOn logbook b r ≡ stepped (shown (live e) n) r1 → RowShown b r e (n .declared)
+unfolding declaredBy
 step-row b r r1 e n q =
     let k = looked b r r1 (live e) n q in
-    by-test (atHeader logbook (r .position))
+    let d : n ≡ reportOf (live e) r = subst (Counts r) q (step-counts b r) (live e) n refl .0 in
+    subst (λ (x : Report). RowShown b r e (x .declared)) (sym d) (by-test (atHeader logbook (r .position))
     (λ f. header-row b r (k .isSound) (k .byte ∷ k .bytes) e (eqb-true (r .position) 0 f)
     (head-item (k .byte ∷ k .bytes) (live e) (k .behind) (k .names) (sym (item-header logbook (namesIn (usedBytes b) r) (r .position) (k .byte) (k .bytes) f) ∙ k .gets) .0))
     (λ f. element-row b r (k .isSound) (k .isFit) (past-header (r .position) f) (r .position) (k .byte) (k .behind) (k .bytes) (k .names) e
-    (sym (item-element logbook (namesIn (usedBytes b) r) (r .position) (k .byte) (k .bytes) f) ∙ k .gets))
+    (sym (item-element logbook (namesIn (usedBytes b) r) (r .position) (k .byte) (k .bytes) f) ∙ k .gets)))

@@ -12,7 +12,7 @@ use Rattle.format.specs.Figures.{usedLimit}
 use Rattle.format.specs.Laws.Cases.{by-test, from-zero-one}
 use Rattle.format.specs.Register.{Names}
 use Rattle.format.specs.Records.{Refusal, refusal, Item, Got, bad, got, logbook, atHeader, item}
-use Rattle.format.specs.Reading.{Walked, walk, whole, stop, Reading, fresh, Shown, shown, end, refused, stepped, numbered, moved, atEnd, stepAt, step}
+use Rattle.format.specs.Reading.{Walked, walk, whole, stop, Reading, fresh, Shown, shown, end, refused, stepped, reportOf, moved, atEnd, stepAt, step}
 use Rattle.format.specs.Calls.{usedBytes, Book, parts, parted, bookOf, sound}
 use Rattle.format.specs.Interleaving.{replies as repliesBy, final as finalBy}
 use Rattle.format.specs.Series.{World, Event, steps, Reply, said, showed, next, replies, final, ToEnd, Reads}
@@ -81,7 +81,7 @@ lists-got n ih lo rest xs g g1 r x m i s b f h q =
     let u : walk logbook 0 g p (x ∷ xs) ≡ walk logbook 0 g1 (p + suc m) (drop m xs) = rw (take-append-drop, c) at (part-walk logbook t (drop m xs)) in
     let d : p + suc m + length (drop m xs) ≡ p + suc (length xs) = rw length-drop (omega (arith, item-exact logbook g g1 p x m xs i q .inside)) in
     let z : roll logbook 0 g p (x ∷ xs) ≡ told i ++ roll logbook 0 g1 (p + suc m) (drop m xs) = rw (take-append-drop, c) at (part-roll logbook t (drop m xs)) in
-    rw (listed-step n (lo ++ (x ∷ xs)) rest r r1 (shown i (numbered i (r .count))) (rw length-append b) (step-here logbook (stands-none []) r p g lo (x ∷ xs) s f refl ∙ rw (s .place, q)))
+    rw (listed-step n (lo ++ (x ∷ xs)) rest r r1 (shown i (reportOf i r)) (rw length-append b) (step-here logbook (stands-none []) r p g lo (x ∷ xs) s f refl ∙ rw (s .place, q)))
     (rw (z, y .0), y .1 ∙ rw (u, d))
 
 lists-item : (n : ℕ) → Lists n → (lo rest xs : List ℕ) (g : Names) (r : Reading) (x : ℕ) → Sees r (length lo) g → length lo + suc (length xs) ≤ usedLimit → Fits logbook (stands-none []) lo g → length xs < n

@@ -1,11 +1,11 @@
 -- What the three moves of a reading find at a record, whatever stands before it and behind it.
 use mathlib.Core.Path.{_≡_, refl, sym, ap, _∙_}
 use mathlib.Core.Bool.{true, false}
-use mathlib.Core.List.{List, [], _∷_, _++_, map, append-assoc}
+use mathlib.Core.List.{List, [], _∷_, _++_, append-assoc}
 use mathlib.Core.Option.{Option, none, some, Option·map}
-use Prim.Native.Nat.{ℕ, zero, suc, pred, _+_, _-_, _≤_, _<_}
+use Prim.Native.Nat.{ℕ, zero, suc, pred, _+_, _-_, _≤_}
 use native.Mathlib.Omega.{arith}
-use borrow.Author.Tests.{le-leb, lt-ltb}
+use borrow.Author.Tests.{le-leb}
 use lib.ListN.{length, drop, replicate, length-append, length-drop, length-replicate, replicate-append-replicate}
 use lib.Seq.{take-at, drop-at, drop-append-le, drop-append-add}
 use Rattle.format.specs.Figures.{usedLimit, sizeBytes, numberBytes}
@@ -14,17 +14,17 @@ use Rattle.format.specs.Bytes.{same, partOf}
 use Rattle.format.specs.Integers.{value, readInteger}
 use Rattle.format.specs.Laws.Integers.{read-exact, read-start, low-is-no-lead, digits-last}
 use Rattle.format.specs.Uris.{typeName, headerName}
-use Rattle.format.specs.Register.{Names, Named, find, isHeld, heldRows, numberOf, namedNumber, namedUri, rowFor}
+use Rattle.format.specs.Register.{Names, Named, find, isHeld, rowNumber, KeptRow, rowIn, heldRows, numberOf, namedNumber, namedUri, rowFor}
 use Rattle.format.specs.Laws.Register.{held-table, find-map}
 use Rattle.format.specs.Records.{plain, Entry, Item, padding, deleted, live, got, entryOf, assignmentPart, headerPart, dataPart, headerAt, Origin, atHeader}
-use Rattle.format.specs.Reading.{Reading, shown, end, numbered, tableAfter, moved, atEnd}
+use Rattle.format.specs.Reading.{Reading, noReport, reportOf, shown, end, declaredBy, tableAfter, moved, atEnd}
 use Rattle.format.specs.Moves.{sizeOf, typeHeld, typeOf, Held, nothing, sized, typed, Slow, slow, fitHeld, fitsSlow, Told, tells, movedTo, hold, doneWith, sizeMove, typeMove, dataMove, elementMove, firstMove, moveAt, move, moveOn}
 use Rattle.format.specs.SlowSeries.{slowly}
 use Rattle.format.specs.Laws.Moves.{fit-sized, fit-typed}
 use Rattle.format.specs.Laws.Order.Items.{Judgement, gone, entry, heading, assigning, judgement}
-use Rattle.format.specs.Laws.Order.Standing.{Stands}
+use Rattle.format.specs.Laws.Order.Standing.{Stands, rows-number}
 use Rattle.format.specs.Laws.Order.Wiping.{writing-reads, Quiet, none, Spent, spent, full, worn, dead-quiet}
-use Rattle.format.specs.Laws.Order.Changes.{rows-number, body-zero}
+use Rattle.format.specs.Laws.Order.Changes.{body-zero}
 use Rattle.format.specs.Laws.Order.Frames.{Sees, Fits, seen-here, fit-here, moved-reading}
 use Rattle.format.specs.Laws.Order.Middle.{Whole, Front, front, front-of, Blot, same as unblotted, blotted}
 use Rattle.format.specs.Laws.Order.Halves.{Half, intact, faded}
@@ -70,7 +70,17 @@ module _ (o : Origin) (begin : Stands [] (o .names)) where
 
   row-held : (r : Reading) (p m : ℕ) (g : Names) (y : Named) → Sees r p g → find namedNumber m g ≡ some y
       → isHeld (find numberOf m (heldRows (r .table))) ≡ true
-  row-held r p m g y s e = rw (s .rows, held-table (map rowFor g), find-map namedNumber numberOf rowFor rows-number m g, e)
+  row-held r p m g y s e = rw (s .rows .table, held-table (s .rows .kept)) (kept-held (find numberOf m (s .rows .kept)) found)
+    where
+      found : Option·map rowIn (find numberOf m (s .rows .kept)) ≡ some (rowFor y)
+      found =
+          sym (find-map numberOf rowNumber rowIn (λ x. refl) m (s .rows .kept))
+          ∙ ap (find rowNumber m) (s .rows .rows)
+          ∙ rw (find-map namedNumber rowNumber rowFor rows-number m g, e)
+
+      kept-held : (v : Option KeptRow) → Option·map rowIn v ≡ some (rowFor y) → isHeld v ≡ true
+      kept-held none z = from-zero-one (cc)
+      kept-held (some x) z = refl
 
   -- ---- nothing held
   abbrev pub idle : Reading → Slow
@@ -87,7 +97,7 @@ module _ (o : Origin) (begin : Stands [] (o .names)) where
   end-move r g lo s f l h = idle-move r g lo [] s f l ∙ rw h
 
   abbrev pub showing : Reading → Item → Told
-  showing r i = tells (shown i (numbered i (r .count)))
+  showing r i = tells (shown i (reportOf i r))
 
   pub header-move : (r : Reading) (g g1 : Names) (x n : ℕ) (lo xs : List ℕ) (i : Item) → Sees r (r .position) g → Fits o begin lo g
       → length lo ≡ r .position → atHeader o (r .position) ≡ true → headerAt (x ∷ xs) ≡ got i n g1
@@ -101,8 +111,8 @@ module _ (o : Origin) (begin : Stands [] (o .names)) where
 
   pub padding-move : (r : Reading) (g : Names) (lo xs : List ℕ) → Sees r (r .position) g → Fits o begin lo g → length lo ≡ r .position
       → atHeader o (r .position) ≡ false
-      → move o (lo ++ (0 ∷ xs)) (idle r) ≡ movedTo (tells (shown (padding (r .position)) 0)) (idle (ahead r 1))
-  unfolding firstMove elementMove moved tableAfter
+      → move o (lo ++ (0 ∷ xs)) (idle r) ≡ movedTo (tells (shown (padding (r .position)) noReport)) (idle (ahead r 1))
+  unfolding firstMove elementMove moved declaredBy tableAfter
   padding-move r g lo xs s f l h = idle-move r g lo (0 ∷ xs) s f l ∙ rw h
 
   size-move-at : (r : Reading) (g g1 : Names) (a b : List ℕ) (i : Item) → Sees r (r .position) g → Whole o g (r .position) a b i g1 → Front a
@@ -129,8 +139,8 @@ module _ (o : Origin) (begin : Stands [] (o .names)) where
   pub deleted-move : (r : Reading) (g : Names) (a b1 : List ℕ) → Sees r (r .position) g → atHeader o (r .position) ≡ false → 1 ≤ length a
       → length a ≤ sizeBytes → (lo hi : List ℕ) → Fits o begin lo g → length lo ≡ r .position
       → move o (lo ++ ((a ++ (0 ∷ b1)) ++ hi)) (slow r (sized (r .position + length a) (r .position + (length a + suc (length b1)))))
-      ≡ movedTo (tells (shown (deleted (r .position) (length a) (suc (length b1))) 0)) (idle (ahead r (length a + suc (length b1))))
-  unfolding moveAt typeMove typeOf moved tableAfter
+      ≡ movedTo (tells (shown (deleted (r .position) (length a) (suc (length b1))) noReport)) (idle (ahead r (length a + suc (length b1))))
+  unfolding moveAt typeMove typeOf moved declaredBy tableAfter
   deleted-move r g a b1 s h u v lo hi f l =
       let p : ℕ = r .position in
       let x1 : p + length a - p ≡ length a = omega arith in

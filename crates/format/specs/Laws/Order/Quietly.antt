@@ -9,13 +9,14 @@ use lib.ListN.{length, replicate, length-append, length-replicate}
 use Rattle.format.specs.Figures.{usedLimit, sizeBytes}
 use Rattle.format.specs.Register.{Names}
 use Rattle.format.specs.Records.{padding, deleted, Origin, atHeader}
-use Rattle.format.specs.Reading.{Reading, shown}
+use Rattle.format.specs.Reading.{Reading, noReport, shown}
 use Rattle.format.specs.Grammar.{Writing}
 use Rattle.format.specs.Moves.{Held, nothing, sized, Slow, slow, Told, tells, holds}
 use Rattle.format.specs.Interleaving.{steps, ReplyOf, showed, listing}
 use Rattle.format.specs.SlowSeries.{slowly, linesOf, lives, MovesToEnd}
 use Rattle.format.specs.Laws.Order.Items.{Piece, past-start}
-use Rattle.format.specs.Laws.Order.Standing.{Stands}
+use Rattle.format.specs.Laws.Denials.Fits.{declared-later}
+use Rattle.format.specs.Laws.Order.Standing.{Stands, kept-more}
 use Rattle.format.specs.Laws.Order.Wiping.{Quiet, none, zeros, gone, quiet-piece, deleted-piece}
 use Rattle.format.specs.Laws.Order.Frames.{Sees, Fits}
 use Rattle.format.specs.Laws.Order.Middle.{Front, front, front-of, whole-deleted}
@@ -62,7 +63,7 @@ module _ (o : Origin) (begin : Stands [] (o .names)) where
   unfolding listing lives linesOf MovesToEnd
   run-gone r g a b1 s h w (front x c e n) =
       let r1 : Reading = ahead o begin r (length a + suc (length b1)) in
-      let d : Told = tells (shown (deleted (r .position) (length a) (suc (length b1))) 0) in
+      let d : Told = tells (shown (deleted (r .position) (length a) (suc (length b1))) noReport) in
       record {
         ps = showed (holds (half-held r a (0 ∷ b1))) (slow r (half-held r a (0 ∷ b1))) ∷ showed d (slow r1 nothing) ∷ [];
         lists = refl;
@@ -84,12 +85,12 @@ module _ (o : Origin) (begin : Stands [] (o .names)) where
   ahead-ahead r m n = ap (λ (k : ℕ). record { position = k; count = r .count; table = r .table }) (add-assoc (r .position) m n)
 
   pub ahead-sees : (r : Reading) (g : Names) (n : ℕ) → Sees r (r .position) g → Sees (ahead o begin r n) (r .position + n) g
-  ahead-sees r g n s = record { place = refl; few = omega (arith, s .few); rows = s .rows }
+  ahead-sees r g n s = record { place = refl; few = omega (arith, s .few); rows = kept-more (declared-later (r .position) (r .position + n) (omega arith)) (s .rows) }
 
   run-padding : (r : Reading) (g : Names) → Sees r (r .position) g → atHeader o (r .position) ≡ false → RunOver r g (0 ∷ []) (ahead o begin r 1)
   unfolding listing lives linesOf MovesToEnd
   run-padding r g s h =
-      let d : Told = tells (shown (padding (r .position)) 0) in
+      let d : Told = tells (shown (padding (r .position)) noReport) in
       record {
         ps = showed d (slow (ahead o begin r 1) nothing) ∷ [];
         lists = refl;

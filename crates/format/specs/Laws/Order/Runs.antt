@@ -82,10 +82,10 @@ module _ (o : Origin) (begin : Stands [] (o .names)) where
   ahead a hi = length hi
 
   sees-at : (r : Reading) (p : ℕ) (g : Names) → r .position ≡ p → Sees r (r .position) g → Sees r p g
-  sees-at r p g e s = record { place = e; few = omega (arith, s .few); rows = s .rows }
+  sees-at r p g e s = subst (λ (q : ℕ). Sees r q g) e s
 
   sees-now : (r : Reading) (p : ℕ) (g : Names) → Sees r p g → Sees r (r .position) g
-  sees-now r p g s = record { place = refl; few = omega (arith, s .few, s .place); rows = s .rows }
+  sees-now r p g s = subst (λ (q : ℕ). Sees r q g) (sym (s .place)) s
 
   abbrev every : Reply → List Reply
   every a = a ∷ []

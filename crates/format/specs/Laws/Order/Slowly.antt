@@ -11,7 +11,7 @@ use Rattle.format.specs.Figures.{usedLimit, sizeBytes}
 use Rattle.format.specs.Laws.Cases.{by-test}
 use Rattle.format.specs.Register.{Names}
 use Rattle.format.specs.Records.{Item, padding, deleted, got, element, Origin, atHeader, item}
-use Rattle.format.specs.Reading.{walk, Reading, fresh, shown, end}
+use Rattle.format.specs.Reading.{walk, Reading, fresh, noReport, shown, end, declaredBy}
 use Rattle.format.specs.Calls.{Book, parts, parted, bookOf, sound}
 use Rattle.format.specs.Moves.{nothing, sized, Slow, slow, Told, tells, holds, movedTo, move}
 use Rattle.format.specs.Series.{isEnd, isRefused, Reads}
@@ -135,6 +135,7 @@ module _ (o : Origin) (begin : Stands [] (o .names)) where
 
   move-padding : (r : Reading) (g : Names) (s : Sees r (r .position) g) (xs : List ℕ) → atHeader o (r .position) ≡ false
       → Good o begin g (r .position) (0 ∷ xs) → Move (at-idle r g s) (0 ∷ xs)
+  unfolding declaredBy
   move-padding r g s xs h q =
       move-once r (ahead o begin r 1) g g s (ahead-sees o begin r g 1 s) (0 ∷ []) xs (padding (r .position)) (omega arith) refl
       (padding-piece o begin g (r .position) h) (good-behind g g (r .position) (0 ∷ []) xs (padding-piece o begin g (r .position) h) q)
@@ -183,7 +184,7 @@ module _ (o : Origin) (begin : Stands [] (o .names)) where
       let e : r .position + length w ≡ r .position + n = ap (λ (m : ℕ). r .position + m) lw in
       let ro : RunOver o begin r g w (ahead o begin r n) =
       run-to o begin r (ahead o begin r n) g w (ap (λ (m : ℕ). ahead o begin r m) lw) (run-quiet o begin w z r g s h) in
-      let d : Told = tells (shown (deleted (r .position) (length a) (suc (length b1))) 0) in
+      let d : Told = tells (shown (deleted (r .position) (length a) (suc (length b1))) noReport) in
       goes w hi1 (at-idle (ahead o begin r n) g (ahead-sees o begin r g n s)) d (ro .ps) refl (omega (arith, length-append w hi1)) q
       (λ l f. (fits-more o begin l w g g (r .position) (f .0) (f .1) pc, longer o begin l w (r .position) (f .1) ∙ e))
       (λ t y. high-size w t g refl hf y)

@@ -6,7 +6,7 @@ use mathlib.Core.Option.{Option, none, some}
 use Prim.Native.Nat.{ℕ, zero, suc, pred, _+_, _*_, _-_, _^_, _≤_, _<_}
 use native.Mathlib.Omega.{arith}
 use native.Mathlib.Nat.{zero-add}
-use borrow.Author.Tests.{leb-true, ne-eqb}
+use borrow.Author.Tests.{leb-true}
 use lib.ListN.{length, drop, length-append}
 use lib.Dec.{leb}
 use lib.Seq.{drop-at}
@@ -17,7 +17,7 @@ use Rattle.format.specs.Integers.{value, readInteger, writeInteger, widt
 use Rattle.format.specs.Laws.Integers.{value-value, read-write, read-start, digits-last, low-is-no-lead, width-bounds}
 use Rattle.format.specs.Uris.{typeName, headerName}
 use Rattle.format.specs.Laws.Uris.{appendable-type, appendable-header}
-use Rattle.format.specs.Register.{find, freeFrom, Named, implied, written, Names, namedNumber, namedUri, uriOf, numberFor}
+use Rattle.format.specs.Register.{find, freeFrom, Named, written, Names, namedNumber, namedUri, uriOf, numberFor}
 use Rattle.format.specs.Laws.Register.{holder-held, find-number, find-here, find-on, find-insert, free-bounds, some-some, RowOf, row-of}
 use Rattle.format.specs.Records.{refusal, plain, assignment, Item, live, got, entryOf, assigned, roomFor, assignable, assignmentPart, dataPart, namedPart, typePart, Origin, atHeader}
 use Rattle.format.specs.Reading.{whole, walk, walkAll}
@@ -25,7 +25,7 @@ use Rattle.format.specs.Calls.{parts, Call, append, assign, erase, wipe,
 use Rattle.format.specs.Laws.Requests.{asked-append, asked-assign}
 use Rattle.format.specs.Series.{early, markCall}
 use Rattle.format.specs.Laws.Order.Items.{judged, Piece, piece-join, record-piece, walk-append, walk-start, past-start}
-use Rattle.format.specs.Laws.Order.Standing.{All, Number, StandsRow, Stands, stands-more, walk-stands}
+use Rattle.format.specs.Laws.Order.Standing.{All, Number, StandsRow, row-number, Stands, stands-more, walk-stands}
 use Rattle.format.specs.Laws.Order.Frames.{Fits, fits-stands, Good, EarlyOf, early-refused, early-erase, early-wipe, aimed-early, ends-with}
 
 -- ---- a written integer of at most k + 1 bytes
@@ -114,11 +114,6 @@ all-found P n r (x ∷ g) (a, k) e =
     by-equality (namedNumber x) n
     (λ q. let z : x ≡ r = some-some (sym (find-here namedNumber n x g q) ∙ e) in rw z at a)
     (λ q. all-found P n r g k (sym (find-on namedNumber n x g q) ∙ e))
-
-row-number : (l : List ℕ) (r : Named) → StandsRow l r → Number (namedNumber r)
-unfolding StandsRow
-row-number l (implied n) k = by-equality n 1 (λ e. (omega arith, omega arith)) (λ d. by-equality n 111 (λ e. (omega arith, omega arith)) (λ e. from-zero-one (let f : false ≡ true = rw (ne-eqb n 1 d, ne-eqb n 111 e) at k in cc)))
-row-number l (written n q u) k = k .number
 
 pub record HeldBy (l : List ℕ) (g : Names) (u : List ℕ) (n : ℕ) : Type 0 where
   pub number : Number n
