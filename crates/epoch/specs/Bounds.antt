@@ -10,8 +10,8 @@ use Rattle.std.specs.Int.{w64}
 use Rattle.std.proofs.lemmas.Int.{to_z_pos, to_z-of_z}
 use Rattle.format.specs.Figures.{coordinate_limit, difference_limit}
 use Rattle.format.specs.Epochs.{Triple, is_within, in_bounds, difference_of}
-use Rattle.format.specs.Laws.Cases.{from_zero_one, true_false, and_false}
-use Rattle.format.specs.Laws.Wholes.{abs_neg, abs_add}
+use Rattle.format.proofs.Laws.Cases.{from_zero_one, true_false, and_false}
+use Rattle.format.proofs.Laws.Wholes.{abs_neg, abs_add}
 use Rattle.epoch.specs.DoubleLaws.{in_range}
 
 mag_small : (z : ℤ) → mag z ≤ nat_abs z

@@ -9,7 +9,7 @@ use Rattle.std.specs.Int.Count.{count_trailing_zeros}
 use Rattle.std.specs.Float.Ieee.Digits.{size-lt, size_reaches, size-le}
 use Rattle.std.specs.Float.Ieee.Fits.{down_pos}
 use Rattle.std.specs.Float.Ieee.Exact.{HasValue}
-use Rattle.format.specs.Laws.Cases.{by_order}
+use Rattle.format.proofs.Laws.Cases.{by_order}
 use Rattle.epoch.specs.Doubles.{double_of, negative, DoubleBits, zero_bits, whole_bits, IsDouble}
 use Rattle.epoch.specs.DoubleLaws.{exact}
 

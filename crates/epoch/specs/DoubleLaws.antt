@@ -10,7 +10,7 @@ use Rattle.std.specs.Float.Ieee.{emax, low, up, down, unlike, round, size, span,
 use Rattle.std.specs.Float.Ieee.Fits.{down_pos}
 use Rattle.std.specs.Float.Ieee.Exact.{HasValue, round_exact}
 use Rattle.std.specs.Float.Ieee.Scale.{round_same}
-use Rattle.format.specs.Laws.Cases.{by_order}
+use Rattle.format.proofs.Laws.Cases.{by_order}
 use Rattle.epoch.specs.Doubles.{double_of, negative}
 
 abbrev pub value_of : Bool → ℕ → ℤ

@@ -6,9 +6,9 @@ use Rattle.std.specs.Float.{binary64}
 use Rattle.std.specs.Float.Ieee.{unlike, mul, add}
 use Rattle.std.specs.Float.Ieee.Exact.{HasValue}
 use Rattle.format.specs.Figures.{coordinate_limit, difference_limit, motion_limit}
-use Rattle.format.specs.Epochs.{Triple, position_of, difference_of, moved_of, yearly_of, Shot, shifted, shift}
-use Rattle.format.specs.Laws.Wholes.{abs_mul}
-use Rattle.format.specs.Laws.Shifts.{Inside, inside, Done, shot_done, product_size_lem, point_size_lem, motion_size_lem}
+use Rattle.format.specs.Epochs.{Triple, position_of, difference_of, moved_of, yearly_of, Shot, shifted, shift, Inside}
+use Rattle.format.proofs.Laws.Wholes.{abs_mul}
+use Rattle.format.proofs.Laws.Shifts.{inside, Done, shot_done, product_size_lem, point_size_lem, motion_size_lem}
 use Rattle.epoch.specs.Doubles.{double_of, negative, IsDouble}
 use Rattle.epoch.specs.DoubleLaws.{whole_of, has_value, product, hundredfold, sum_exact}
 use Rattle.epoch.specs.DoubleBits.{is_double}

@@ -8,7 +8,7 @@ use borrow.Author.Tests.{le-leb, lt-leb}
 use Rattle.std.specs.Int.{w64}
 use Rattle.std.proofs.lemmas.Int.{to_z_pos}
 use Rattle.format.specs.Epochs.{number_from, big_endian, signed}
-use Rattle.format.specs.Laws.Epochs.{carried, signed_low, signed_high}
+use Rattle.format.proofs.Laws.Epochs.{carried, signed_low, signed_high}
 
 tail_at : (t : List ℕ) (i : ℕ) → i < length t → drop i t ≡ get_or t i 0 ∷ drop (i + 1) t
 tail_at t i h = drop-cons t i 0 h ∙ ap (λ (j : ℕ). get_or t i 0 ∷ drop j t) (sym (add-one i))

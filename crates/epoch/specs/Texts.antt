@@ -7,10 +7,10 @@ use Rattle.std.proofs.Math.ListN.{take, drop, length-drop}
 use Rattle.std.proofs.Math.Seq.{take_all}
 use Rattle.format.specs.Text.{ascii}
 use Rattle.format.specs.Bytes.{same}
-use Rattle.format.specs.Laws.Cases.{by_test, from_zero_one}
-use Rattle.format.specs.Laws.Bytes.{same_equal}
+use Rattle.format.proofs.Laws.Cases.{by_test, from_zero_one}
+use Rattle.format.proofs.Laws.Bytes.{same_equal}
 use Rattle.format.specs.Epochs.{number_from, epoch_in, epoch_of}
-use Rattle.format.specs.Laws.Epochs.{number_behind, number_behind_lem, number_below}
+use Rattle.format.proofs.Laws.Epochs.{number_behind, number_behind_lem, number_below}
 
 module _ (t : List ℕ) where
   pub text_years : length t ≡ 4 → epoch_in t ≡ map (λ y. y * 100) (number_from 0 t)

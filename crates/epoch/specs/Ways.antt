@@ -6,8 +6,8 @@ use Rattle.std.proofs.Math.Option.{Option, none, some}
 use Rattle.format.specs.Figures.{shot_length}
 use Rattle.format.specs.Epochs.{epoch_of, position_of, in_bounds, difference_of, point_of, motion_of, shifted, not_shifted, shift_from, shift_named, shift}
 use Rattle.format.specs.Epochs as Epochs
-use Rattle.format.specs.Laws.Cases.{by_test}
-use Rattle.format.specs.Laws.Shifts.{from_other_length, from_over, from_done, shift_unnamed}
+use Rattle.format.proofs.Laws.Cases.{by_test}
+use Rattle.format.proofs.Laws.Shifts.{from_other_length, from_over, from_done, shift_unnamed}
 use Rattle.record.specs.Items.{refusal_of, refusal_back}
 use Rattle.record.specs.declared.Refusal.TheVariants.{NotEpoch, NotShot, OverBound}
 use Rattle.epoch.specs.Answers.{triple_of, triple_as, point_as, motion_as, shifted_as}

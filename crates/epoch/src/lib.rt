@@ -4,7 +4,7 @@ ghost use Rattle.format.specs.Figures.{shot_length, coordinate_limit, difference
 ghost use Rattle.format.specs.Epochs as Epochs;
 ghost use Rattle.epoch.specs.Doubles.{double_of};
 ghost use Rattle.epoch.specs.Answers.{number_of, triple_of, point_as, motion_as, shifted_as};
-ghost use Rattle.format.specs.Laws.Shifts.{Sizes, Inside};
+ghost use Rattle.format.specs.Epochs.{Sizes, Inside};
 
 use record::Refusal;
 

@@ -1,6 +1,6 @@
 -- A shot moved from one epoch to another (02 [11]): the epoch that a URI names, the coordinates in a shot's data, and the
 -- formula, all in whole numbers.
-use Rattle.std.specs.Prelude.{Bool, ◌&&◌, cond, List, [], ◌∷◌, ◌++◌, ℕ, ◌+◌, ◌-◌, ◌*◌, ◌^◌, length, take, drop, get_or, leb, ltb, eqb, ℤ, pos, neg_ℤ, nat_abs, ◌+ℤ◌, ◌-ℤ◌, ◌*ℤ◌}
+use Rattle.std.specs.Prelude.{Bool, ◌&&◌, cond, List, [], ◌∷◌, ◌++◌, ℕ, ◌+◌, ◌-◌, ◌*◌, ◌^◌, length, take, drop, get_or, leb, ltb, eqb, ℤ, pos, neg_ℤ, nat_abs, ◌+ℤ◌, ◌-ℤ◌, ◌*ℤ◌, ◌≤◌}
 use Rattle.std.proofs.Math.Option.{Option, none, some, map}
 use Rattle.format.specs.Text.{ascii}
 use Rattle.format.specs.Bytes.{same, within}
@@ -108,3 +108,14 @@ shift_named (some epoch) d asked m = shift_from epoch d asked m
 -- from URI, data, asked epoch and motion
 unfoldable pub shift : List ℕ → List ℕ → ℤ → Triple → Shifted
 shift u d asked m = shift_named (epoch_of u) d asked m
+
+-- ---- each coordinate of at most n in size, and a request within its bounds: what the arithmetic of a shift needs
+pub record Sizes (n : ℕ) (t : Triple) : Type 0 where
+  pub size_x : nat_abs t.x ≤ n
+  pub size_y : nat_abs t.y ≤ n
+  pub size_z : nat_abs t.z ≤ n
+
+pub record Inside (p : Triple) (difference : ℤ) (m : Triple) : Type 0 where
+  pub coordinates : Sizes coordinate_limit p
+  pub apart : nat_abs difference ≤ difference_limit
+  pub motions : Sizes motion_limit m

@@ -13,9 +13,6 @@ use Rattle.format.specs.Series.{Reads}
 use Rattle.format.specs.Moves.{size_of, by_size, Held, nothing, Slow, slow, fresh_slow, Told, holds, done, move_on, three_moves, AsStep}
 use Rattle.format.specs.SlowSeries.{wipes_taken, spares_call, slowly, line_listed, lives, step_lines, Undisturbed}
 use Rattle.format.specs.Entries.{entries_of}
-use Rattle.format.specs.Demand3.{demand3_slowly}
-use Rattle.format.specs.Laws.Moves.{record_parts, three_moves_lem, move_stays, first_place, letter_spares}
-use Rattle.format.specs.Laws.Lists.Moves.{moves_steps, moves_entries}
 
 pub record SlowReading (b : Book) : Type 0 where
   -- "the tablet takes size, type and data": a record is these three, each with its own refusals
@@ -33,26 +30,3 @@ pub record SlowReading (b : Book) : Type 0 where
   pub entries : (ps : List (ReplyOf Told Slow)) → Undisturbed b ps → map line_listed (listing lives ps) ≡ entries_of b
   -- "no wipe on a record whose type the reading has taken and whose data it hasn't": that, by its letter, is enough
   pub letter : (s : Slow) (c : Call) → wipes_taken s c ≡ false → spares_call logbook b s c ≡ true
-
--- the series with no call in it
-undisturbed : (b : Book) → Reads logbook b → (ps : List (ReplyOf Told Slow)) × Undisturbed b ps
-unfolding Spared sorted reordered
-undisturbed b r =
-    let m = demand3_slowly b r [] tt in
-    let e : replies logbook (slowly logbook) (world b fresh_slow) (replicate (length m.whole) steps) ≡ m.whole =
-    rw (append-nil, append-nil) at m.same_replies in
-    (m.whole, record { is_to_end = m.to_end; read = e })
-
--- any buffer and used length
-pub slow_reading : (b : Book) → SlowReading b
-slow_reading b =
-    record {
-      parts = record_parts;
-      three = three_moves_lem logbook;
-      first = λ r e. first_place logbook b r (rw e);
-      stays = move_stays logbook b;
-      reads = undisturbed b;
-      lists = moves_steps b;
-      entries = moves_entries b;
-      letter = letter_spares logbook b;
-    }

@@ -7,10 +7,10 @@ use Rattle.std.proofs.Math.ListN.{length}
 use Rattle.std.proofs.Math.Seq.{take-length, take-append_seam, drop-append_seam}
 use Rattle.format.specs.Bytes.{stored}
 use Rattle.format.specs.Figures.{file_limit}
-use Rattle.format.specs.Laws.Cases.{by_order, from_zero_one}
+use Rattle.format.proofs.Laws.Cases.{by_order, from_zero_one}
 use Rattle.format.specs.Reading.{Reading, fresh}
 use Rattle.format.specs.Listing.{listing}
-use Rattle.format.specs.Laws.Listing.{Passes}
+use Rattle.format.proofs.Laws.Listing.{Passes}
 use Rattle.listing.specs.Filling.{fill_of}
 use Rattle.listing.specs.FillingLaws.{Fills, filled_inside, fill_long, fill_listing, fill_moves}
 use Rattle.list.specs.Handing.{NextPart, Parts, Shows, Lists, room, HandsOver, rest_on, Stands}

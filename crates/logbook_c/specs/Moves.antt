@@ -1,7 +1,7 @@
 -- What C gets of a slow reading and a move.
 use Rattle.std.specs.Prelude.{◌≡◌, ◌&&◌, cond, List, ℕ, eqb, length, take}
 use Rattle.std.proofs.Common.{ap, ◌∙◌}
-use Rattle.format.specs.Laws.Cases.{by_test}
+use Rattle.format.proofs.Laws.Cases.{by_test}
 use Rattle.format.specs.Records.{logbook}
 use Rattle.format.specs.Calls.{book_in}
 use Rattle.format.specs.Moves as F

@@ -2,10 +2,10 @@
 use Rattle.std.specs.Prelude.{◌≡◌, List, [], ◌∷◌, ◌++◌, ℕ, zero, suc, ◌+◌, ◌*◌, ◌/◌, ◌%◌, ◌≤◌, ◌<◌, length, set}
 use Rattle.std.proofs.Common.{ap, ◌∙◌, arith, length-append}
 use Rattle.format.specs.Bytes.{stored}
-use Rattle.format.specs.Laws.Bytes.{stored_first, stored_byte, stored_behind}
-use Rattle.format.specs.Laws.Cases.{by_order}
+use Rattle.format.proofs.Laws.Bytes.{stored_first, stored_byte, stored_behind}
+use Rattle.format.proofs.Laws.Cases.{by_order}
 use Rattle.format.specs.Listing.{decimal}
-use Rattle.format.specs.Laws.Listing.{decimal_digit, decimal_more}
+use Rattle.format.proofs.Laws.Listing.{decimal_digit, decimal_more}
 
 -- ten to a power
 unfoldable pub ten_to : ℕ → ℕ

@@ -5,7 +5,7 @@ use Prim.Native.Nat.{ℕ}
 use native.Mathlib.Omega.{arith}
 use lib.ListN.{length-drop, take, drop}
 use lib.Seq.{length-take-le}
-use Rattle.format.specs.Laws.Epochs.{number_behind}
+use Rattle.format.proofs.Laws.Epochs.{number_behind}
 use Rattle.epoch.specs.Answers.{number_of}
 use Rattle.epoch.specs.Texts.{text_no_point, text_hundredths, years_below}
 use borrow.Author.Rules.{rules}

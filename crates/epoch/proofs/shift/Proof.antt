@@ -4,8 +4,8 @@ use mir.Syntax.{w64}
 use mir.ValLaws.{to_z-of_z}
 use Rattle.format.specs.Epochs.{shift_from}
 use mathlib.Core.Path.{sym, ap, ◌∙◌}
-use Rattle.format.specs.Laws.Epochs.{epoch_below}
-use Rattle.format.specs.Laws.Shifts.{shift_named_lem}
+use Rattle.format.proofs.Laws.Epochs.{epoch_below}
+use Rattle.format.proofs.Laws.Shifts.{shift_named_lem}
 use Rattle.epoch.specs.Answers.{number_of, triple_of, shifted_as}
 use Rattle.epoch.specs.Ways.{answer_unnamed}
 use borrow.Author.Rules.{rules}

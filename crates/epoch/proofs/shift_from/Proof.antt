@@ -5,7 +5,7 @@ use borrow.Author.Tests.{not-true, not-false}
 use lib.IntN.{nat_abs}
 use mir.Syntax.{w64}
 use mir.ValLaws.{to_z-of_z}
-use Rattle.format.specs.Laws.Shifts.{inside}
+use Rattle.format.proofs.Laws.Shifts.{inside}
 use Rattle.epoch.specs.Bounds.{difference_back, difference_fits}
 use Rattle.epoch.specs.Ways.{answer_length, answer_far, answer_over, answer_moved}
 use borrow.Author.Rules.{rules}

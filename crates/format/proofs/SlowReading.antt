@@ -1,0 +1,41 @@
+-- A reading in three moves does what it promises.
+use Rattle.std.specs.Prelude.{◌≡◌, refl, true, false, List, [], ◌∷◌, map, ℕ, suc, length, replicate}
+use Rattle.std.proofs.Common.{sym, ◌∙◌, append-nil}
+use Rattle.format.specs.Figures.{size_bytes}
+use Rattle.format.specs.Integers.{read_integer}
+use Rattle.format.specs.Register.{Names}
+use Rattle.format.specs.Records.{element, logbook}
+use Rattle.format.specs.Reading.{Reading, step}
+use Rattle.format.specs.Calls.{Book, Call, step_on}
+use Rattle.format.specs.Interleaving.{world, steps, ReplyOf, reordered, listing, replies, sorted, Spared}
+use Rattle.format.specs.Series.{Reads}
+use Rattle.format.specs.Moves.{size_of, by_size, Held, nothing, Slow, slow, fresh_slow, Told, holds, done, move_on, three_moves, AsStep}
+use Rattle.format.specs.SlowSeries.{wipes_taken, spares_call, slowly, line_listed, lives, step_lines, Undisturbed}
+use Rattle.format.specs.Entries.{entries_of}
+use Rattle.format.proofs.Laws.Moves.{record_parts, three_moves_lem, move_stays, first_place, letter_spares}
+use Rattle.format.proofs.Laws.Lists.Moves.{moves_steps, moves_entries}
+use Rattle.format.proofs.Demand3.{demand3_slowly}
+use Rattle.format.specs.SlowReading.{SlowReading}
+
+-- the series with no call in it
+undisturbed : (b : Book) → Reads logbook b → (ps : List (ReplyOf Told Slow)) × Undisturbed b ps
+unfolding Spared sorted reordered
+undisturbed b r =
+    let m = demand3_slowly b r [] tt in
+    let e : replies logbook (slowly logbook) (world b fresh_slow) (replicate (length m.whole) steps) ≡ m.whole =
+    rw (append-nil, append-nil) at m.same_replies in
+    (m.whole, record { is_to_end = m.to_end; read = e })
+
+-- any buffer and used length
+pub slow_reading : (b : Book) → SlowReading b
+slow_reading b =
+    record {
+      parts = record_parts;
+      three = three_moves_lem logbook;
+      first = λ r e. first_place logbook b r (rw e);
+      stays = move_stays logbook b;
+      reads = undisturbed b;
+      lists = moves_steps b;
+      entries = moves_entries b;
+      letter = letter_spares logbook b;
+    }
