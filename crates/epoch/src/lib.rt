@@ -1,4 +1,6 @@
 // A shot moved from one epoch to another: whole numbers in, doubles that are whole micrometres out.
+#![tactic(auto)]
+
 ghost use Rattle.std.specs.Prelude.{◌≡◌, ◌≤◌, ◌<◌, length, nat_abs};
 ghost use Rattle.format.specs.Figures.{shot_length, coordinate_limit, difference_limit, motion_limit};
 ghost use Rattle.format.specs.Epochs as Epochs;
@@ -10,7 +12,7 @@ use record::Refusal;
 
 // Three whole numbers: tenths of a millimetre, or of a millimetre a year.
 #[repr(C)]
-#[derive(Drop)]
+#[derive(Clone, Copy)]
 pub struct Triple {
     pub x: i64,
     pub y: i64,
@@ -19,7 +21,7 @@ pub struct Triple {
 
 // A position in micrometres.
 #[repr(C)]
-#[derive(Drop)]
+#[derive(Clone, Copy)]
 pub struct Point {
     pub x: f64,
     pub y: f64,
@@ -28,7 +30,7 @@ pub struct Point {
 
 // A motion in micrometres a year.
 #[repr(C)]
-#[derive(Drop)]
+#[derive(Clone, Copy)]
 pub struct Motion {
     pub x: f64,
     pub y: f64,
@@ -36,14 +38,14 @@ pub struct Motion {
 }
 
 // What some bytes write.
-#[derive(Drop)]
+#[derive(Clone, Copy)]
 pub enum Number {
     Is(usize),
     Absent,
 }
 
 // A moved shot with its own epoch, in hundredths of a year, and its own coordinates.
-#[derive(Drop)]
+#[derive(Clone, Copy)]
 pub enum Shifted {
     Moved {
         epoch: usize,

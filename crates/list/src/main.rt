@@ -1,4 +1,6 @@
 // Lists the logbook in the file that its argument names, or on standard input without one.
+#![tactic(auto)]
+
 mod input;
 mod output;
 

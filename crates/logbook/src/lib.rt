@@ -1,4 +1,6 @@
 // Every public call of the library, and what it takes and answers. None has a `requires`.
+#![tactic(auto)]
+
 pub use appending::{Appended, Started, append, assign, start};
 pub use epoch::{Motion, Number, Point, Shifted, Triple, epoch_of, shift};
 pub use erasing::{Erased, Wiped, erase, wipe};

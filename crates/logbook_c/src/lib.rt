@@ -1,4 +1,6 @@
 // What C and Rust call: every public call, with numbers, byte slices and structs of numbers. include/logbook.h documents it.
+#![tactic(auto)]
+
 ghost use Rattle.std.specs.Prelude.{◌≡◌, ◌+◌, ◌≤◌, length};
 ghost use Rattle.format.specs.Reading as Format;
 ghost use Rattle.format.specs.Calls as Calls;
@@ -30,7 +32,7 @@ use register::{Details, EntryNumber, Numbers, Place, Register, Row};
 use slow::{Held, Outcome, Slow};
 
 #[repr(C)]
-#[derive(Drop)]
+#[derive(Clone, Copy)]
 pub struct LogbookStarted {
     pub refusal: usize,
     pub place: usize,
@@ -38,7 +40,7 @@ pub struct LogbookStarted {
 }
 
 #[repr(C)]
-#[derive(Drop)]
+#[derive(Clone, Copy)]
 pub struct LogbookAppended {
     pub refusal: usize,
     pub place: usize,
@@ -46,14 +48,14 @@ pub struct LogbookAppended {
 }
 
 #[repr(C)]
-#[derive(Drop)]
+#[derive(Clone, Copy)]
 pub struct LogbookErased {
     pub refusal: usize,
     pub place: usize,
 }
 
 #[repr(C)]
-#[derive(Drop)]
+#[derive(Clone, Copy)]
 pub struct LogbookWiped {
     pub refusal: usize,
     pub place: usize,
@@ -63,7 +65,7 @@ pub struct LogbookWiped {
 // C has four columns in the place of the details: places and lengths of the URIs, places and numbers of the records that
 // assigned the rows.
 #[repr(C)]
-#[derive(Drop)]
+#[derive(Clone, Copy)]
 pub struct LogbookReading {
     pub position: usize,
     pub count: usize,
@@ -73,7 +75,7 @@ pub struct LogbookReading {
 }
 
 #[repr(C)]
-#[derive(Drop)]
+#[derive(Clone, Copy)]
 pub struct LogbookRow {
     pub number: u64,
     pub place: u32,
@@ -81,7 +83,7 @@ pub struct LogbookRow {
 }
 
 #[repr(C)]
-#[derive(Drop)]
+#[derive(Clone, Copy)]
 pub struct LogbookItem {
     pub kind: usize,
     pub refusal: usize,
@@ -98,14 +100,14 @@ pub struct LogbookItem {
 }
 
 #[repr(C)]
-#[derive(Drop)]
+#[derive(Clone, Copy)]
 pub struct LogbookStep {
     pub item: LogbookItem,
     pub reading: LogbookReading,
 }
 
 #[repr(C)]
-#[derive(Drop)]
+#[derive(Clone, Copy)]
 pub struct LogbookSlow {
     pub reading: LogbookReading,
     pub type_place: usize,
@@ -115,14 +117,14 @@ pub struct LogbookSlow {
 }
 
 #[repr(C)]
-#[derive(Drop)]
+#[derive(Clone, Copy)]
 pub struct LogbookMove {
     pub item: LogbookItem,
     pub slow: LogbookSlow,
 }
 
 #[repr(C)]
-#[derive(Drop)]
+#[derive(Clone, Copy)]
 pub struct LogbookUri {
     pub refusal: usize,
     pub implied: usize,
@@ -131,7 +133,7 @@ pub struct LogbookUri {
 }
 
 #[repr(C)]
-#[derive(Drop)]
+#[derive(Clone, Copy)]
 pub struct LogbookListed {
     pub length: usize,
     pub over: usize,
@@ -139,7 +141,7 @@ pub struct LogbookListed {
 }
 
 #[repr(C)]
-#[derive(Drop)]
+#[derive(Clone, Copy)]
 pub struct LogbookShifted {
     pub refusal: usize,
     pub place: usize,

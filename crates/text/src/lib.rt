@@ -1,4 +1,6 @@
 // Numerals and fields of text in a lent buffer; each call answers the place behind what it stored.
+#![tactic(auto)]
+
 ghost use Rattle.std.specs.Prelude.{◌≡◌, [], ◌∷◌, ◌++◌, ◌+◌, ◌≤◌, ◌<◌, length};
 ghost use Rattle.format.specs.Bytes.{stored};
 ghost use Rattle.format.specs.Listing.{decimal};

@@ -1,0 +1,16 @@
+-- The digits, and one byte behind them.
+use native.Mathlib.Omega.{arith}
+use borrow.Author.Rules.{rules}
+use lib.ListN.{length-set}
+use Rattle.format.specs.Listing.{decimal}
+use Rattle.text.specs.Numerals.{laid_byte}
+use Rattle.text.proofs.put_number.Goals as goal
+
+pub bounds-out-end : goal.bounds-out-end
+bounds-out-end c = omega (arith, c.put_decimal-end.auto.0)
+
+pub shape_of-out : goal.shape_of-out
+shape_of-out c = simp length-set c.put_decimal-end.auto.0
+
+pub returns : goal.returns
+returns c = laid_byte c.args.out.now c.args.at (decimal c.args.v) c.args.mark c.requires c.put_decimal-end.ensures
