@@ -67,7 +67,7 @@ def turn_paths(body, steps, arms):
         parts = [p for p in tail.split(".") if p and p != "before"]
         if parts and norm(parts[0]) not in steps and norm(parts[0])[:-4] in steps and parts[0].endswith("_lem"):
             parts[0] = parts[0][:-4]
-        for n in (3, 2, 1):
+        for n in range(8, 0, -1):
             arm = parts and arms.get((norm(parts[0]), *parts[1 : n + 1]))
             if arm and len(parts) > n:
                 return ".".join([root, *arm, *parts[n + 1 :]])

@@ -9,8 +9,5 @@ use Rattle.text.proofs.put_number.Goals as goal
 pub bounds-out-end : goal.bounds-out-end
 bounds-out-end c = omega (arith, c.put_decimal-end.auto.0)
 
-pub shape_of-out : goal.shape_of-out
-shape_of-out c = simp length-set c.put_decimal-end.auto.0
-
 pub returns : goal.returns
 returns c = laid_byte c.args.out.now c.args.at (decimal c.args.v) c.args.mark c.requires c.put_decimal-end.ensures

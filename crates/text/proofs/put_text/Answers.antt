@@ -5,8 +5,5 @@ use lib.ListN.{length-set}
 use Rattle.text.specs.Numerals.{laid_byte}
 use Rattle.text.proofs.put_text.Goals as goal
 
-pub shape_of-out : goal.shape_of-out
-shape_of-out c = simp length-set c.put.auto.0
-
 pub returns : goal.returns
 returns c = laid_byte c.args.out.now c.args.at c.args.s.now c.args.mark c.requires (refl, c.put.ensures)
