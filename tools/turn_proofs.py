@@ -57,11 +57,26 @@ def roots(body):
     return found
 
 
-def turn_paths(body, steps, arms):
+def by_name(parts, callee):
+    """What a call leaves in its k-th parameter, .new.1 .. .1.0, by the parameter's name."""
+    m = callee and re.match(r"new((?:\.1)*)\.0(?=\.|$)", ".".join(parts))
+    k = m and len(m.group(1)) // 2
+    if m and k < len(callee):
+        return ["new", callee[k], *parts[k + 2 :]]
+    return ["type_inv" if p == "type-inv" else p for p in parts]
+
+
+def turn_paths(body, steps, arms, callees):
     own = roots(body)
+    held = {}
+    for m in re.finditer(r"\blet\s+(" + NAME + r")\s*=\s*(" + NAME + r")(?:\.before)*\.([\w-]+)\s+in\b", body):
+        if m.group(2) in own and norm(m.group(3)) in callees:
+            held[m.group(1)] = callees[norm(m.group(3))]
 
     def path(m):
         root, tail = m.group(1), m.group(2)
+        if root in held:
+            return ".".join([root, *by_name(tail[1:].split("."), held[root])])
         if root not in own:
             return m.group(0)
         parts = [p for p in tail.split(".") if p and p != "before"]
@@ -72,7 +87,8 @@ def turn_paths(body, steps, arms):
             if arm and len(parts) > n:
                 return ".".join([root, *arm, *parts[n + 1 :]])
         if parts and norm(parts[0]) in steps:
-            parts[0] = steps[norm(parts[0])]
+            callee = callees.get(norm(parts[0]))
+            parts = [steps[norm(parts[0])], *by_name(parts[1:], callee)]
         return ".".join([root, *parts])
 
     body = re.sub(r"(?<![\w.'-])(" + NAME + r")((?:\.[\w'₀-₉-]+)+)", path, body)
@@ -94,10 +110,12 @@ def turn(crate, f, data, keep_search):
         return
     d = data[key]
     goals = {norm(o): n for o, n in d["needs"]}
-    steps = {}
+    steps, callees = {}, {}
     for p in d["places"]:
         if p[2] and p[2][0]:
             steps[norm(p[2][0])] = p[2][1]
+            if p[3] in d["params"]:
+                callees[norm(p[2][0])] = d["params"][p[3]]
     arms = {}
     for a in d["arms"]:
         for field, old, at in a[2] if a else []:
@@ -162,7 +180,7 @@ def turn(crate, f, data, keep_search):
             continue
         if not keep_search and not unfolding and re.fullmatch(r"(search rules|omega arith|tt)", term.strip()):
             continue
-        term = turn_paths(term, steps, arms)
+        term = turn_paths(term, steps, arms, callees)
         answers.append(f"pub {new} : goal.{new}\n" + (unfolding.group(1) if unfolding else "") + f"{new}{args} = {term}\n")
     comment = "\n".join(head)
     os.makedirs(folder, exist_ok=True)
