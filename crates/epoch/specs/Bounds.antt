@@ -55,7 +55,7 @@ back : (a : ℕ) → a < 9223372036854775808 → to_z w64 (of_z w64 (negsuc 0 -�
 back a h = ap (λ (z : ℤ). to_z w64 (of_z w64 z)) (less_one a) ∙ to_z_pos w64 a h
 
 not_below : {P : Type 0} (n : ℕ) → ltb n 0 ≡ true → P
-not_below n h = from_zero_one (let z : n < 0 = ltb-true n 0 h in let e : _≡_ {A = ℕ} 0 1 = omega (arith, z) in e)
+not_below n h = from_zero_one (let z : n < 0 = ltb-true n 0 h in let e : ◌≡◌ {A = ℕ} 0 1 = omega (arith, z) in e)
 
 pub below_fits : (z : ℤ) → SFits w64 z → lt_z z (pos 0) ≡ true → SFits w64 (negsuc 0 -ℤ z)
 below_fits (pos n) f h = not_below n h

@@ -8,7 +8,7 @@ use Rattle.epoch.proofs.position_of.Goals as goal
 pub returns : goal.returns
 unfolding position_of coordinate_at
 returns c = λ i. record {
-  x = (field_back _ c.read_signed.type-inv ∙ c.read_signed.ensures) i;
-  y = (field_back _ c.read_signed-2.type-inv ∙ c.read_signed-2.ensures) i;
-  z = (field_back _ c.read_signed-3.type-inv ∙ c.read_signed-3.ensures) i;
+  x = (field_back _ c.read_signed.type_inv ∙ c.read_signed.ensures) i;
+  y = (field_back _ c.read_signed-2.type_inv ∙ c.read_signed-2.ensures) i;
+  z = (field_back _ c.read_signed-3.type_inv ∙ c.read_signed-3.ensures) i;
 }
