@@ -1,0 +1,6 @@
+-- The row's struct is the row.
+use borrow.Author.Rules.{rules}
+use Rattle.logbook_c.proofs.live_item.Goals as goal
+
+pub returns : goal.returns
+returns c = rw c.row_as-row.ensures
