@@ -1,8 +1,11 @@
 // A file's bytes, read into a buffer.
 ghost use Rattle.std.specs.Prelude.{◌≡◌, ◌≤◌, length};
 
+use crate::output;
+use std::io::Read;
+
 // What came of reading a file: `len` bytes at the front of the buffer, or a failed read. The fields are private, so that none is made up.
-#[derive(Drop)]
+#[derive(Clone, Copy)]
 pub struct Taken {
     failed: bool,
     len: usize,
@@ -22,24 +25,23 @@ impl Taken {
     }
 }
 
-// Reads until the buffer is full or the input is over.
-pub fn take_all(fd: i32, buf: &mut [u8]) -> Taken
+// Reads until the buffer is full or the input is over, and says where a read fails.
+pub fn take_all<R: Eprint, F: Read>(rt: &R, name: &str, from: &mut F, buf: &mut [u8]) -> Taken
     ensures { result.len ≤ length buf.new }
 {
     let mut len = 0;
     while len < buf.len() {
-        let got = libc::read(fd, &mut buf[len..]);
-        if got < 0 {
-            return Taken {
-                failed: true,
-                len: 0,
-            };
+        match from.read(&mut buf[len..]) {
+            Ok(0) => return Taken { failed: false, len },
+            Ok(more) => len += more,
+            Err(why) => {
+                output::fail(rt, name, &why);
+                return Taken {
+                    failed: true,
+                    len: 0,
+                };
+            }
         }
-        let more = io::count(got, &buf[len..]);
-        if more == 0 {
-            return Taken { failed: false, len };
-        }
-        len += more;
     }
     Taken { failed: false, len }
 }

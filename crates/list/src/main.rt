@@ -10,9 +10,10 @@ ghost use Rattle.listing.specs.Filling.{fill_of};
 ghost use Rattle.list.specs.Handing.{Shows, Lists, room, HandsOver, Stands};
 
 use input::Taken;
-use libc::STDIN_FILENO;
 use output::Handed;
 use reading::Reading;
+use std::io::Read;
+use std::{env, fs, io};
 
 // One byte more than a listing takes tells a file that is too long.
 const FILE_ROOM: usize = format::FILE_LIMIT + 1;
@@ -21,7 +22,7 @@ const FILE_ROOM: usize = format::FILE_LIMIT + 1;
 const LINES_ROOM: usize = 262144;
 
 // Where a listing stands: the bytes handed over, the reading behind them, and whether they end it.
-#[derive(Drop)]
+#[derive(Clone, Copy)]
 struct Turn {
     handed: Handed,
     reading: Reading,
@@ -29,7 +30,13 @@ struct Turn {
 }
 
 // Hands over one buffer of lines.
-fn show_some(handed: Handed, reading: Reading, file: &[u8], out: &mut [u8; LINES_ROOM]) -> Turn
+fn show_some<R: Print + Eprint>(
+    rt: &R,
+    handed: Handed,
+    reading: Reading,
+    file: &[u8],
+    out: &mut [u8; LINES_ROOM],
+) -> Turn
     requires { Stands file.now handed.len handed.failed (reading_of reading) }
     ensures { HandsOver handed.len (fill_of file.now room (reading_of reading)) result.handed.len (reading_of result.reading) result.over }
 {
@@ -37,7 +44,7 @@ fn show_some(handed: Handed, reading: Reading, file: &[u8], out: &mut [u8; LINES
     let len = t.len;
     let next = t.reading;
     let lines = &out[..];
-    let more = handed.hand_over(file, &lines[0..len]);
+    let more = handed.hand_over(rt, file, &lines[0..len]);
     Turn {
         handed: more,
         reading: next,
@@ -46,7 +53,7 @@ fn show_some(handed: Handed, reading: Reading, file: &[u8], out: &mut [u8; LINES
 }
 
 // Hands over the listing of a file, up to a failed write; each buffer of lines passes over a byte, or is the last.
-fn show(file: &[u8]) -> Handed
+fn show<R: Print + Eprint>(rt: &R, file: &[u8]) -> Handed
     ensures { Shows file.now result.len result.failed }
 {
     let mut out = [0u8; LINES_ROOM];
@@ -54,7 +61,7 @@ fn show(file: &[u8]) -> Handed
     let mut reading = Reading::fresh();
     let mut turns: usize = FILE_ROOM;
     while 0 < turns {
-        let t = show_some(handed, reading, file, &mut out);
+        let t = show_some(rt, handed, reading, file, &mut out);
         let more = t.handed;
         if more.has_failed() {
             return more;
@@ -71,19 +78,18 @@ fn show(file: &[u8]) -> Handed
 }
 
 // What came of listing a file: what was read of it, and the bytes handed over.
-#[derive(Drop)]
+#[derive(Clone, Copy)]
 struct Outcome {
     taken: Taken,
     handed: Handed,
 }
 
 // Reads a file into the buffer and lists it, or says why it can't be read.
-fn list(fd: i32, name: &[u8], file: &mut [u8; FILE_ROOM]) -> Outcome
+fn list<R: Print + Eprint, F: Read>(rt: &R, name: &str, from: &mut F, file: &mut [u8; FILE_ROOM]) -> Outcome
     ensures { Lists result.taken.failed (take result.taken.len file.new) result.handed.len result.handed.failed }
 {
-    let taken = input::take_all(fd, file);
+    let taken = input::take_all(rt, name, from, file);
     if taken.has_failed() {
-        os::fail(name);
         return Outcome {
             taken,
             handed: Handed::nothing(),
@@ -91,27 +97,23 @@ fn list(fd: i32, name: &[u8], file: &mut [u8; FILE_ROOM]) -> Outcome
     }
     let len = taken.len();
     let bytes = &file[..];
-    let handed = show(&bytes[0..len]);
+    let handed = show(rt, &bytes[0..len]);
     Outcome { taken, handed }
 }
 
-fn main() {
+fn main(rt: HostRuntime) -> io::Result<()> {
     let mut file = [0u8; FILE_ROOM];
-    if os::arg_count() < 2 {
-        list(STDIN_FILENO, b"standard input", &mut file);
-        return;
+    let mut args = env::args(&rt)?;
+    let _program = args.next();
+    let Some(path) = args.next() else {
+        list(&rt, "standard input", &mut rt.stdin(), &mut file);
+        return Ok(());
+    };
+    match fs::open(&rt, path.as_str()) {
+        Ok(mut from) => {
+            list(&rt, path.as_str(), &mut from, &mut file);
+        }
+        Err(why) => output::fail(&rt, path.as_str(), &why),
     }
-    let mut path = io::buffer();
-    let len = os::arg(1, &mut path);
-    if os::errno() != 0 {
-        os::fail(b"path");
-        return;
-    }
-    let fd = os::open_read(&path[..len]);
-    if fd < 0 {
-        os::fail(&path[..len]);
-        return;
-    }
-    list(fd, &path[..len], &mut file);
-    libc::close(fd);
+    Ok(())
 }

@@ -2,10 +2,11 @@
 ghost use Rattle.std.specs.Prelude.{◌≡◌, false, ◌+◌, length};
 ghost use Rattle.list.specs.Handing.{NextPart};
 
-use libc::STDOUT_FILENO;
+use std::io;
+use std::io::Write;
 
 // How many bytes of a listing were handed over, and whether the last write failed. The fields are private, so that none is made up.
-#[derive(Drop)]
+#[derive(Clone, Copy)]
 pub struct Handed {
     len: usize,
     failed: bool,
@@ -29,15 +30,22 @@ impl Handed {
     }
 
     // Hands over the next part of the file's listing, and says where its write fails. The file stands here for the contract.
-    pub fn hand_over(self, file: &[u8], part: &[u8]) -> Handed
+    pub fn hand_over<R: Print + Eprint>(self, rt: &R, file: &[u8], part: &[u8]) -> Handed
         requires { NextPart file.now self.len self.failed part.now }
         ensures { result.len ≡ self.len + length part.now }
     {
         let len = self.len + part.len();
-        if io::write_all(STDOUT_FILENO, part) {
-            return Handed { len, failed: false };
+        match io::writer(rt).write_all(part) {
+            Ok(()) => Handed { len, failed: false },
+            Err(why) => {
+                fail(rt, "standard output", &why);
+                Handed { len, failed: true }
+            }
         }
-        os::fail(b"standard output");
-        Handed { len, failed: true }
     }
+}
+
+// Says on standard error what failed and why; where that fails too, nothing is left to say it on.
+pub fn fail<R: Eprint>(rt: &R, what: &str, why: &io::Error) {
+    let _said = eprintln!(rt; "{what}: {why}");
 }
