@@ -11,8 +11,8 @@ use Rattle.format.proofs.Laws.Cases.{by_order, from_zero_one}
 use Rattle.format.specs.Reading.{Reading, fresh}
 use Rattle.format.specs.Listing.{listing}
 use Rattle.format.proofs.Laws.Listing.{Passes}
-use Rattle.listing.specs.Filling.{fill_of}
-use Rattle.listing.specs.FillingLaws.{Fills, filled_inside, fill_long, fill_listing, fill_moves}
+use Rattle.listing.specs.Filling.{fill_of, Fills}
+use Rattle.listing.proofs.FillingLaws.{filled_inside, fill_long, fill_listing, fill_moves}
 use Rattle.list.specs.Handing.{NextPart, Parts, Shows, Lists, room, HandsOver, rest_on, Stands}
 
 -- a test can't have both answers

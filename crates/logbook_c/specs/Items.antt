@@ -15,8 +15,7 @@ use Rattle.reading.specs.declared.Entry.{Entry}
 use Rattle.reading.specs.declared.Reading.{Reading}
 use Rattle.reading.specs.declared.Item.{Item}
 use Rattle.reading.specs.declared.Item.TheVariants as Variant
-use Rattle.listing.specs.Filling.{Filled, fill_of}
-use Rattle.listing.specs.FillingLaws.{Fills}
+use Rattle.listing.specs.Filling.{Filled, fill_of, Fills}
 use Rattle.listing.specs.declared.Listed.{Listed}
 use Rattle.logbook_c.specs.declared.LogbookReading.{LogbookReading}
 use Rattle.logbook_c.specs.declared.LogbookRow.{LogbookRow}

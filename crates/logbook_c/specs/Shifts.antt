@@ -7,7 +7,7 @@ use Rattle.format.specs.Epochs.{shifted, not_shifted, triple}
 use Rattle.record.specs.Items.{refusal_of}
 use Rattle.epoch.specs.Answers as Answers
 use Rattle.epoch.specs.Answers.{triple_as, point_as, motion_as}
-use Rattle.epoch.specs.Ways.{Known}
+use Rattle.epoch.proofs.Ways.{Known}
 use Rattle.epoch.specs.declared.Shifted.{Shifted}
 use Rattle.epoch.specs.declared.Shifted.TheVariants.{Moved, Refused}
 use Rattle.logbook_c.specs.declared.LogbookShifted.{LogbookShifted}

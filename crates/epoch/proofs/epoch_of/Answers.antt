@@ -1,7 +1,7 @@
 -- By the front, then what stands behind it.
 use mathlib.Core.Path.{sym, ◌∙◌}
 use borrow.Author.Tests.{not-true, not-false}
-use Rattle.epoch.specs.Texts.{uri_short_lem, uri_other, uri_behind}
+use Rattle.epoch.proofs.Texts.{uri_short_lem, uri_other, uri_behind}
 use borrow.Author.Rules.{rules}
 use Rattle.epoch.proofs.epoch_of.Goals as goal
 

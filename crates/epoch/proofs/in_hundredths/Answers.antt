@@ -7,7 +7,7 @@ use lib.ListN.{length-drop, take, drop}
 use lib.Seq.{length-take-le}
 use Rattle.format.proofs.Laws.Epochs.{number_behind}
 use Rattle.epoch.specs.Answers.{number_of}
-use Rattle.epoch.specs.Texts.{text_no_point, text_hundredths, years_below}
+use Rattle.epoch.proofs.Texts.{text_no_point, text_hundredths, years_below}
 use borrow.Author.Rules.{rules}
 use Rattle.epoch.proofs.in_hundredths.Goals as goal
 

@@ -4,7 +4,7 @@ use mathlib.Core.Option.{Option, map}
 use Prim.Native.Nat.{ℕ, ◌*◌}
 use native.Mathlib.Omega.{arith}
 use Rattle.epoch.specs.Answers.{number_of}
-use Rattle.epoch.specs.Texts.{text_years, years_below}
+use Rattle.epoch.proofs.Texts.{text_years, years_below}
 use borrow.Author.Rules.{rules}
 use Rattle.epoch.proofs.in_years.Goals as goal
 

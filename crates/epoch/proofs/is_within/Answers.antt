@@ -1,7 +1,7 @@
 -- Each size is the definition's; a field reaches the call as its bits.
 use mathlib.Core.Path.{ap, ◌∙◌}
 use lib.IntN.{nat_abs}
-use Rattle.epoch.specs.Bounds.{field_back}
+use Rattle.epoch.proofs.Bounds.{field_back}
 use borrow.Author.Rules.{rules}
 use Rattle.epoch.proofs.is_within.Goals as goal
 

@@ -1,10 +1,10 @@
 -- Each step is exact; the first summand is never -0, so neither is the sum.
-use Rattle.epoch.specs.Bounds.{range_back}
+use Rattle.epoch.proofs.Bounds.{range_back}
 use native.Mathlib.Omega.{arith}
 use mir.Syntax.{w64}
 use mir.ValLaws.{to_z-of_z}
-use Rattle.epoch.specs.DoubleLaws.{hundred}
-use Rattle.epoch.specs.Exact.{steps_exact}
+use Rattle.epoch.proofs.DoubleLaws.{hundred}
+use Rattle.epoch.proofs.Exact.{steps_exact}
 use Rattle.epoch.proofs.moved.Goals as goal
 
 pub int_to_float-result : goal.int_to_float-result

@@ -3,7 +3,7 @@ use Prim.Native.Nat.{◌+◌, ◌-◌, ◌*◌, ◌^◌, ◌<◌}
 use native.Mathlib.Omega.{arith}
 use lib.ListN.{length, drop}
 use Rattle.format.specs.Epochs.{number_from}
-use Rattle.epoch.specs.Loops.{room_on, number_end, number_low, number_high, number_on, digits_room}
+use Rattle.epoch.proofs.Loops.{room_on, number_end, number_low, number_high, number_on, digits_room}
 use borrow.Author.Rules.{rules}
 use Rattle.epoch.proofs.number_from.Goals as goal
 

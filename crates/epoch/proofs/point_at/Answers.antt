@@ -9,7 +9,7 @@ use mir.Val.{to_z, of_z, SFits}
 use mir.ValLaws.{to_z-of_z}
 use Rattle.format.specs.Epochs.{moved_of}
 use Rattle.epoch.specs.Doubles.{double_of}
-use Rattle.epoch.specs.Bounds.{field_back}
+use Rattle.epoch.proofs.Bounds.{field_back}
 use borrow.Author.Rules.{rules}
 use Rattle.epoch.proofs.point_at.Goals as goal
 

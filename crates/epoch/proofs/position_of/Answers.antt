@@ -1,5 +1,5 @@
 -- Each field by its call, on its eight bytes.
-use Rattle.epoch.specs.Bounds.{field_back}
+use Rattle.epoch.proofs.Bounds.{field_back}
 use mathlib.Core.Path.{◌∙◌}
 use Rattle.format.specs.Epochs.{position_of, coordinate_at}
 use borrow.Author.Rules.{rules}

@@ -7,7 +7,7 @@ use lib.Dec.{lit<}
 use mir.Syntax.{w64}
 use mir.ValLaws.{to_z-of_z}
 use Rattle.format.specs.Epochs.{signed}
-use Rattle.epoch.specs.Loops.{room_on, gathered, gathered_all, gathered_on, gathered_end, bytes_room, bytes_fit, sign_clear, sign_set, sign_set_fits}
+use Rattle.epoch.proofs.Loops.{room_on, gathered, gathered_all, gathered_on, gathered_end, bytes_room, bytes_fit, sign_clear, sign_set, sign_set_fits}
 use borrow.Author.Rules.{rules}
 use Rattle.epoch.proofs.read_signed.Given as goal
 

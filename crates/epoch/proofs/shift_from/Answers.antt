@@ -6,8 +6,8 @@ use lib.IntN.{nat_abs}
 use mir.Syntax.{w64}
 use mir.ValLaws.{to_z-of_z}
 use Rattle.format.proofs.Laws.Shifts.{inside}
-use Rattle.epoch.specs.Bounds.{difference_back, difference_fits}
-use Rattle.epoch.specs.Ways.{answer_length, answer_far, answer_over, answer_moved}
+use Rattle.epoch.proofs.Bounds.{difference_back, difference_fits}
+use Rattle.epoch.proofs.Ways.{answer_length, answer_far, answer_over, answer_moved}
 use borrow.Author.Rules.{rules}
 use Rattle.epoch.proofs.shift_from.Goals as goal
 

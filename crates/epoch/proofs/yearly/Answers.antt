@@ -1,9 +1,9 @@
 -- The product is exact.
-use Rattle.epoch.specs.Bounds.{range_back}
+use Rattle.epoch.proofs.Bounds.{range_back}
 use native.Mathlib.Omega.{arith}
 use mir.Syntax.{w64}
 use mir.ValLaws.{to_z-of_z}
-use Rattle.epoch.specs.DoubleLaws.{hundred, hundredfold}
+use Rattle.epoch.proofs.DoubleLaws.{hundred, hundredfold}
 use Rattle.epoch.proofs.yearly.Goals as goal
 
 pub int_to_float-result : goal.int_to_float-result

@@ -6,7 +6,7 @@ use mir.ValLaws.{to_z-of_z}
 use Rattle.format.specs.Epochs.{shift}
 use Rattle.epoch.specs.Answers as Answers
 use Rattle.epoch.specs.Answers.{triple_of}
-use Rattle.epoch.specs.Ways.{shift_known}
+use Rattle.epoch.proofs.Ways.{shift_known}
 use Rattle.logbook_c.specs.Shifts.{shifted_from, shift_told}
 use borrow.Author.Rules.{rules}
 use Rattle.logbook_c.proofs.logbook_shift.Goals as goal

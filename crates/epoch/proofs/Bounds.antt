@@ -12,7 +12,7 @@ use Rattle.format.specs.Figures.{coordinate_limit, difference_limit}
 use Rattle.format.specs.Epochs.{Triple, is_within, in_bounds, difference_of}
 use Rattle.format.proofs.Laws.Cases.{from_zero_one, true_false, and_false}
 use Rattle.format.proofs.Laws.Wholes.{abs_neg, abs_add}
-use Rattle.epoch.specs.DoubleLaws.{in_range}
+use Rattle.epoch.proofs.DoubleLaws.{in_range}
 
 mag_small : (z : ℤ) → mag z ≤ nat_abs z
 mag_small (pos n) = omega arith

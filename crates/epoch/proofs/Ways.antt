@@ -11,7 +11,7 @@ use Rattle.format.proofs.Laws.Shifts.{from_other_length, from_over, from_done, s
 use Rattle.record.specs.Items.{refusal_of, refusal_back}
 use Rattle.record.specs.declared.Refusal.TheVariants.{NotEpoch, NotShot, OverBound}
 use Rattle.epoch.specs.Answers.{triple_of, triple_as, point_as, motion_as, shifted_as}
-use Rattle.epoch.specs.Bounds.{far_over}
+use Rattle.epoch.proofs.Bounds.{far_over}
 use Rattle.epoch.specs.declared.Triple.{Triple}
 use Rattle.epoch.specs.declared.Point.{Point}
 use Rattle.epoch.specs.declared.Motion.{Motion}

@@ -11,7 +11,7 @@ use Rattle.std.specs.Float.Ieee.Fits.{down_pos}
 use Rattle.std.specs.Float.Ieee.Exact.{HasValue}
 use Rattle.format.proofs.Laws.Cases.{by_order}
 use Rattle.epoch.specs.Doubles.{double_of, negative, DoubleBits, zero_bits, whole_bits, IsDouble}
-use Rattle.epoch.specs.DoubleLaws.{exact}
+use Rattle.epoch.proofs.DoubleLaws.{exact}
 
 -- ---- the leading 53 digits of n 2 ^ a, and how many are behind them
 record Leading (n a : ℕ) : Type 0 where

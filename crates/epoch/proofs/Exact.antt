@@ -10,8 +10,8 @@ use Rattle.format.specs.Epochs.{Triple, position_of, difference_of, moved_of, ye
 use Rattle.format.proofs.Laws.Wholes.{abs_mul}
 use Rattle.format.proofs.Laws.Shifts.{inside, Done, shot_done, product_size_lem, point_size_lem, motion_size_lem}
 use Rattle.epoch.specs.Doubles.{double_of, negative, IsDouble}
-use Rattle.epoch.specs.DoubleLaws.{whole_of, has_value, product, hundredfold, sum_exact}
-use Rattle.epoch.specs.DoubleBits.{is_double}
+use Rattle.epoch.proofs.DoubleLaws.{whole_of, has_value, product, hundredfold, sum_exact}
+use Rattle.epoch.proofs.DoubleBits.{is_double}
 
 -- the three steps to a coordinate: p 100, m d, which may be a zero of either sign, and their sum
 pub record Steps (p m d : ℤ) : Type 0 where
