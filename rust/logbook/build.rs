@@ -13,7 +13,7 @@ fn main() {
     // Only a warning: `cargo check` and `cargo doc` need no archive. A build ends at rustc's error.
     if !archive.is_file() {
         println!(
-            "cargo:warning={} is missing: run `rt staticlib logbook_c` at the repository's root \
+            "cargo:warning={} is missing: run `rt lib logbook_c` at the repository's root \
              first",
             archive.display()
         );
@@ -22,7 +22,7 @@ fn main() {
 
 fn library_folder() -> PathBuf {
     let package = env::var_os("CARGO_MANIFEST_DIR").unwrap_or_default();
-    let usual = Path::new(&package).join("../../target/staticlib");
+    let usual = Path::new(&package).join("../../crates/logbook_c/out");
     let folder = env::var_os("LOGBOOK_LIB_DIR").map_or(usual, PathBuf::from);
     folder.canonicalize().unwrap_or(folder)
 }

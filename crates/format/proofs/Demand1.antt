@@ -1,15 +1,8 @@
 -- Demand 1 is proved, of any buffer, used length and reading; Laws/Denials is behind it.
-use Rattle.std.specs.Prelude.{◌≡◌, refl, true, false, List, [], ◌∷◌, ◌↔◌, ℕ, length, take, eqb, ℤ}
-use Rattle.std.proofs.Math.Option.{none, some, map}
-use Rattle.format.specs.Bytes.{AreBytes}
-use Rattle.format.specs.Register.{Names}
-use Rattle.format.specs.Records.{Refusal, refusal, Item, element, logbook, item}
-use Rattle.format.specs.Reading.{whole, walk_all, here, look_at, Reading, fits}
-use Rattle.format.specs.Calls.{Book, Call, call_on, step_on, start}
-use Rattle.format.specs.Refusals.{Rule, first_of, NoneDue, FirstDue, standing, InTable, leads_with80, IsSplit, as_before, item_rules, refusal_before, refusal_of_got, Passes, RefusedAt, FoundAt, walk_refusal, walks_to, call_rules, refusal_of_answer, OwnAnswer, bad_request, BadRequest, Fitting, step_rules, refusal_of_shown, FittingSlow, move_rules, refusal_of_told, start_rules, refusal_of_started, shift_rules, refusal_of_shifted}
-use Rattle.format.specs.Moves.{held_of, Slow, slow, fits_slow, move_on}
-use Rattle.format.specs.Epochs.{epoch_of, Triple, shift}
-use Rattle.format.specs.Shapes.{EpochUri}
+use Rattle.std.specs.Prelude.{refl}
+use Rattle.format.specs.Records.{logbook}
+use Rattle.format.specs.Reading.{Reading}
+use Rattle.format.specs.Calls.{Book}
 use Rattle.format.proofs.Laws.Epochs.{epochs_mean}
 use Rattle.format.proofs.Laws.Denials.Shifts.{shift_refusal, shift_numbered}
 use Rattle.format.proofs.Laws.Denials.Integers.{leads_mean}

@@ -1,19 +1,6 @@
 -- Demand 2 is proved, of any buffer and used length; Laws/Lists is behind it.
-use Rattle.std.specs.Prelude.{◌≡◌, true, List, ◌∷◌, ◌++◌, map, ℕ, min, length, replicate}
-use Rattle.format.specs.Text.{ascii}
-use Rattle.format.specs.Bytes.{AreBytes, up_from}
-use Rattle.format.specs.Uris.{type_name, header_name}
-use Rattle.format.specs.Header.{hex_digit}
 use Rattle.format.proofs.Laws.Header.{digits_lower}
-use Rattle.format.specs.Records.{Entry, Item, live, logbook}
-use Rattle.format.specs.Reading.{Reading, fresh, Report, shown, end, stepped}
-use Rattle.format.specs.Calls.{Book, used_bytes, sound, append, assign, erase, wipe, appended, erased, wiped, may_append, may_assign, nonzeros, call_on, step_on, begun, start}
-use Rattle.format.specs.Register.{Declared}
-use Rattle.format.specs.Interleaving.{listing}
-use Rattle.format.specs.Series.{world, steps, replies, Reads}
-use Rattle.format.specs.SlowSeries.{Line, line_listed, step_lines}
-use Rattle.format.specs.Grammar.{Listed, listed_at, RecordOf, Register, Logbook}
-use Rattle.format.specs.Entries.{listed, entries_of, Outcome, numbers_shown, count_up, Rises, Shows, Ends, RowShown, DeclaredBy, Starts, Appends, AppendAnswer, Assigns, AssignAnswer, Without, EraseAnswer, Wipes}
+use Rattle.format.specs.Calls.{Book}
 use Rattle.format.proofs.Laws.Lists.Shapes.{names_written}
 use Rattle.format.proofs.Laws.Lists.Walking.{one_list_lem}
 use Rattle.format.proofs.Laws.Lists.Steps.{reading_sound, reading_complete, entries_read}

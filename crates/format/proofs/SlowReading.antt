@@ -1,17 +1,12 @@
 -- A reading in three moves does what it promises.
-use Rattle.std.specs.Prelude.{◌≡◌, refl, true, false, List, [], ◌∷◌, map, ℕ, suc, length, replicate}
-use Rattle.std.proofs.Common.{sym, ◌∙◌, append-nil}
-use Rattle.format.specs.Figures.{size_bytes}
-use Rattle.format.specs.Integers.{read_integer}
-use Rattle.format.specs.Register.{Names}
-use Rattle.format.specs.Records.{element, logbook}
-use Rattle.format.specs.Reading.{Reading, step}
-use Rattle.format.specs.Calls.{Book, Call, step_on}
-use Rattle.format.specs.Interleaving.{world, steps, ReplyOf, reordered, listing, replies, sorted, Spared}
+use Rattle.std.specs.Prelude.{◌≡◌, List, [], length, replicate}
+use Rattle.std.proofs.Common.{append-nil}
+use Rattle.format.specs.Records.{logbook}
+use Rattle.format.specs.Calls.{Book}
+use Rattle.format.specs.Interleaving.{world, steps, ReplyOf, reordered, replies, sorted, Spared}
 use Rattle.format.specs.Series.{Reads}
-use Rattle.format.specs.Moves.{size_of, by_size, Held, nothing, Slow, slow, fresh_slow, Told, holds, done, move_on, three_moves, AsStep}
-use Rattle.format.specs.SlowSeries.{wipes_taken, spares_call, slowly, line_listed, lives, step_lines, Undisturbed}
-use Rattle.format.specs.Entries.{entries_of}
+use Rattle.format.specs.Moves.{Slow, fresh_slow, Told}
+use Rattle.format.specs.SlowSeries.{slowly, Undisturbed}
 use Rattle.format.proofs.Laws.Moves.{record_parts, three_moves_lem, move_stays, first_place, letter_spares}
 use Rattle.format.proofs.Laws.Lists.Moves.{moves_steps, moves_entries}
 use Rattle.format.proofs.Demand3.{demand3_slowly}

@@ -1,10 +1,8 @@
 -- What an epoch shift promises (02 [11]), a field for each sentence; what refuses it is in Demand1.
-use Rattle.std.specs.Prelude.{◌≡◌, refl, List, ℕ, ◌≤◌, ℤ, pos, nat_abs, ◌+ℤ◌, ◌-ℤ◌, ◌*ℤ◌}
-use Rattle.std.proofs.Common.{subst}
-use Rattle.format.specs.Figures.{coordinate_limit, difference_limit, motion_limit}
+use Rattle.std.specs.Prelude.{◌≡◌, List, ℕ, ◌≤◌, ℤ, pos, nat_abs, ◌+ℤ◌, ◌-ℤ◌, ◌*ℤ◌}
 use Rattle.format.specs.Bytes.{AreBytes}
 use Rattle.format.specs.Shapes.{EpochUri, ShotBytes}
-use Rattle.format.specs.Epochs.{Triple, position_of, difference_of, moved_of, yearly_of, Shot, shifted, shift}
+use Rattle.format.specs.Epochs.{Triple, Shot}
 
 -- one coordinate, of p tenths of a millimetre with m a year, d hundredths of a year on
 pub record Moves (p m d : ℤ) (point motion : ℤ) : Type 0 where

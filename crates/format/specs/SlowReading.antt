@@ -1,17 +1,16 @@
 -- What a reading in three moves promises (02 [9]), a field for each sentence; what refuses a move is in Demand1, and Demand3 has
 -- the order of calls and moves.
-use Rattle.std.specs.Prelude.{◌≡◌, refl, true, false, List, [], ◌∷◌, map, ℕ, suc, length, replicate}
-use Rattle.std.proofs.Common.{sym, ◌∙◌, append-nil}
+use Rattle.std.specs.Prelude.{◌≡◌, true, false, List, ◌∷◌, map, ℕ, suc, length}
 use Rattle.format.specs.Figures.{size_bytes}
 use Rattle.format.specs.Integers.{read_integer}
 use Rattle.format.specs.Register.{Names}
 use Rattle.format.specs.Records.{element, logbook}
 use Rattle.format.specs.Reading.{Reading, step}
 use Rattle.format.specs.Calls.{Book, Call, step_on}
-use Rattle.format.specs.Interleaving.{world, steps, ReplyOf, reordered, listing, replies, sorted, Spared}
+use Rattle.format.specs.Interleaving.{ReplyOf, listing}
 use Rattle.format.specs.Series.{Reads}
-use Rattle.format.specs.Moves.{size_of, by_size, Held, nothing, Slow, slow, fresh_slow, Told, holds, done, move_on, three_moves, AsStep}
-use Rattle.format.specs.SlowSeries.{wipes_taken, spares_call, slowly, line_listed, lives, step_lines, Undisturbed}
+use Rattle.format.specs.Moves.{size_of, by_size, Held, nothing, Slow, slow, Told, holds, done, move_on, three_moves, AsStep}
+use Rattle.format.specs.SlowSeries.{wipes_taken, spares_call, line_listed, lives, step_lines, Undisturbed}
 use Rattle.format.specs.Entries.{entries_of}
 
 pub record SlowReading (b : Book) : Type 0 where

@@ -85,7 +85,12 @@ struct Outcome {
 }
 
 // Reads a file into the buffer and lists it, or says why it can't be read.
-fn list<R: Print + Eprint, F: Read>(rt: &R, name: &str, from: &mut F, file: &mut [u8; FILE_ROOM]) -> Outcome
+fn list<R: Print + Eprint, F: Read>(
+    rt: &R,
+    name: &str,
+    from: &mut F,
+    file: &mut [u8; FILE_ROOM],
+) -> Outcome
     ensures { Lists result.taken.failed (take result.taken.len file.new) result.handed.len result.handed.failed }
 {
     let taken = input::take_all(rt, name, from, file);

@@ -1,7 +1,6 @@
 -- By the length of the text.
 use mathlib.Core.Path.{sym}
 use Rattle.epoch.proofs.Texts.{text_other}
-use borrow.Author.Rules.{rules}
 use Rattle.epoch.proofs.epoch_in.Goals as goal
 
 pub returns : goal.returns

@@ -1,8 +1,6 @@
 -- By the front, then what stands behind it.
 use mathlib.Core.Path.{sym, ◌∙◌}
-use borrow.Author.Tests.{not-true, not-false}
 use Rattle.epoch.proofs.Texts.{uri_short_lem, uri_other, uri_behind}
-use borrow.Author.Rules.{rules}
 use Rattle.epoch.proofs.epoch_of.Goals as goal
 
 pub returns-then-uri-lt7 : goal.returns-then-uri-lt7

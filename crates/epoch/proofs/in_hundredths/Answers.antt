@@ -8,7 +8,6 @@ use lib.Seq.{length-take-le}
 use Rattle.format.proofs.Laws.Epochs.{number_behind}
 use Rattle.epoch.specs.Answers.{number_of}
 use Rattle.epoch.proofs.Texts.{text_no_point, text_hundredths, years_below}
-use borrow.Author.Rules.{rules}
 use Rattle.epoch.proofs.in_hundredths.Goals as goal
 
 pub returns-then-text-ne46 : goal.returns-then-text-ne46

@@ -5,7 +5,6 @@ use Prim.Native.Nat.{ℕ, ◌*◌}
 use native.Mathlib.Omega.{arith}
 use Rattle.epoch.specs.Answers.{number_of}
 use Rattle.epoch.proofs.Texts.{text_years, years_below}
-use borrow.Author.Rules.{rules}
 use Rattle.epoch.proofs.in_years.Goals as goal
 
 pub overflow_mul-result : goal.overflow_mul-result

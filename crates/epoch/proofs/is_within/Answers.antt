@@ -2,7 +2,6 @@
 use mathlib.Core.Path.{ap, ◌∙◌}
 use lib.IntN.{nat_abs}
 use Rattle.epoch.proofs.Bounds.{field_back}
-use borrow.Author.Rules.{rules}
 use Rattle.epoch.proofs.is_within.Goals as goal
 
 pub returns : goal.returns

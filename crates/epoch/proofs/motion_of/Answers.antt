@@ -4,7 +4,6 @@ use lib.IntN.{ℤ}
 use Rattle.format.specs.Epochs.{yearly_of}
 use Rattle.epoch.specs.Doubles.{double_of}
 use Rattle.epoch.proofs.Bounds.{field_back}
-use borrow.Author.Rules.{rules}
 use Rattle.epoch.proofs.motion_of.Goals as goal
 
 pub returns : goal.returns

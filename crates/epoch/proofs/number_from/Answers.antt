@@ -1,10 +1,7 @@
-use mathlib.Core.Path.{◌≡◌, refl, sym, ◌∙◌}
-use Prim.Native.Nat.{◌+◌, ◌-◌, ◌*◌, ◌^◌, ◌<◌}
+use mathlib.Core.Path.{refl, sym, ◌∙◌}
+use Prim.Native.Nat.{◌+◌, ◌*◌, ◌<◌}
 use native.Mathlib.Omega.{arith}
-use lib.ListN.{length, drop}
-use Rattle.format.specs.Epochs.{number_from}
 use Rattle.epoch.proofs.Loops.{room_on, number_end, number_low, number_high, number_on, digits_room}
-use borrow.Author.Rules.{rules}
 use Rattle.epoch.proofs.number_from.Goals as goal
 
 pub loop-i-init : goal.loop-i-init
@@ -35,9 +32,9 @@ loop-i-smaller c = omega (arith, c.loop-i-test.true)
 
 pub loop-i-preserved : goal.loop-i-preserved
 loop-i-preserved c = let l = c.loop-i in (
-      l.invariant.0 ∙ number_on l.n _ l.i c.loop-i-test.true c.if-b-lt48.false c.if-b-gt57.false,
-      room_on 10000 10 l.n _ l.i (omega (arith, c.if-b-gt57.false)) l.invariant.1,
-    )
+  l.invariant.0 ∙ number_on l.n _ l.i c.loop-i-test.true c.if-b-lt48.false c.if-b-gt57.false,
+  room_on 10000 10 l.n _ l.i (omega (arith, c.if-b-gt57.false)) l.invariant.1,
+)
 
 pub returns : goal.returns
 returns c = sym (c.loop-i.invariant.0 ∙ number_end c.loop-i.n _ c.loop-i.i c.loop-i-test.false)

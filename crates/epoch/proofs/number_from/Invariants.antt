@@ -1,11 +1,8 @@
 -- The number of the digits from here on, behind what was read, is that of all of them.
-use mathlib.Core.Path.{◌≡◌, refl, sym, ◌∙◌}
-use Prim.Native.Nat.{◌+◌, ◌-◌, ◌*◌, ◌^◌, ◌<◌}
-use native.Mathlib.Omega.{arith}
+use mathlib.Core.Path.{◌≡◌}
+use Prim.Native.Nat.{◌-◌, ◌*◌, ◌^◌, ◌<◌}
 use lib.ListN.{length, drop}
 use Rattle.format.specs.Epochs.{number_from}
-use Rattle.epoch.proofs.Loops.{room_on, number_end, number_low, number_high, number_on, digits_room}
-use borrow.Author.Rules.{rules}
 use Rattle.epoch.proofs.number_from.Given as goal
 
 abbrev pub invariant-loop-i : goal.invariant-loop-i

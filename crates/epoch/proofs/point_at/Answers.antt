@@ -10,7 +10,6 @@ use mir.ValLaws.{to_z-of_z}
 use Rattle.format.specs.Epochs.{moved_of}
 use Rattle.epoch.specs.Doubles.{double_of}
 use Rattle.epoch.proofs.Bounds.{field_back}
-use borrow.Author.Rules.{rules}
 use Rattle.epoch.proofs.point_at.Goals as goal
 
 -- a signed field reaches a call as its bits, read back
@@ -21,7 +20,6 @@ at_fields p m d hp hm hd e =
     e ∙ ap (λ (z : ℤ). double_of (moved_of z (to_z w64 (of_z w64 m)) (to_z w64 (of_z w64 d)))) (field_back p hp)
     ∙ ap (λ (z : ℤ). double_of (moved_of p z (to_z w64 (of_z w64 d)))) (field_back m hm)
     ∙ ap (λ (z : ℤ). double_of (moved_of p m z)) (to_z-of_z w64 d hd)
-
 
 pub returns : goal.returns
 returns c = let p = c.args.position in

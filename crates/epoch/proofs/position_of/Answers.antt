@@ -2,7 +2,6 @@
 use Rattle.epoch.proofs.Bounds.{field_back}
 use mathlib.Core.Path.{◌∙◌}
 use Rattle.format.specs.Epochs.{position_of, coordinate_at}
-use borrow.Author.Rules.{rules}
 use Rattle.epoch.proofs.position_of.Goals as goal
 
 pub returns : goal.returns

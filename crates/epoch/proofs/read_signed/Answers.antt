@@ -1,12 +1,11 @@
-use mathlib.Core.Path.{◌≡◌, refl, sym, ap, ◌∙◌}
-use Prim.Native.Nat.{◌-◌, ◌*◌, ◌^◌, ◌≤◌, ◌<◌}
+use mathlib.Core.Path.{refl, sym, ap, ◌∙◌}
+use Prim.Native.Nat.{◌<◌}
 use native.Mathlib.Omega.{arith}
-use lib.ListN.{length, drop}
 use lib.Dec.{lit<}
 use mir.Syntax.{w64}
 use mir.ValLaws.{to_z-of_z}
 use Rattle.format.specs.Epochs.{signed}
-use Rattle.epoch.proofs.Loops.{room_on, gathered, gathered_all, gathered_on, gathered_end, bytes_room, bytes_fit, sign_clear, sign_set, sign_set_fits}
+use Rattle.epoch.proofs.Loops.{room_on, gathered_all, gathered_on, gathered_end, bytes_room, bytes_fit, sign_clear, sign_set, sign_set_fits}
 use borrow.Author.Rules.{rules}
 use Rattle.epoch.proofs.read_signed.Goals as goal
 
@@ -31,12 +30,12 @@ loop-i-smaller c = omega (arith, c.loop-i-test.true)
 
 pub loop-i-preserved : goal.loop-i-preserved
 loop-i-preserved c = let l = c.loop-i in (
-      l.invariant.0 ∙ gathered_on l.v _ l.i c.loop-i-test.true,
-      (
-        room_on 1 256 l.v _ l.i (omega (arith, c.shared_slice_known-1.given l.i)) l.invariant.1.0,
-        omega (arith, c.loop-i-test.true, c.requires),
-      ),
-    )
+  l.invariant.0 ∙ gathered_on l.v _ l.i c.loop-i-test.true,
+  (
+    room_on 1 256 l.v _ l.i (omega (arith, c.shared_slice_known-1.given l.i)) l.invariant.1.0,
+    omega (arith, c.loop-i-test.true, c.requires),
+  ),
+)
 
 pub returns-then-v-lt9223372036854775808 : goal.returns-then-v-lt9223372036854775808
 returns-then-v-lt9223372036854775808 c = let l = c.loop-i in

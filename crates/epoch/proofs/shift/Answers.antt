@@ -8,7 +8,6 @@ use Rattle.format.proofs.Laws.Epochs.{epoch_below}
 use Rattle.format.proofs.Laws.Shifts.{shift_named_lem}
 use Rattle.epoch.specs.Answers.{number_of, triple_of, shifted_as}
 use Rattle.epoch.proofs.Ways.{answer_unnamed}
-use borrow.Author.Rules.{rules}
 use Rattle.epoch.proofs.shift.Goals as goal
 
 pub shift_from-requires : goal.shift_from-requires

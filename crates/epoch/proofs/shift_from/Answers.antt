@@ -1,14 +1,12 @@
 -- By the length, the asked epoch's size and the bounds, in the definition's order.
 use mathlib.Core.Path.{sym, ap, ◌∙◌}
 use native.Mathlib.Omega.{arith}
-use borrow.Author.Tests.{not-true, not-false}
 use lib.IntN.{nat_abs}
 use mir.Syntax.{w64}
 use mir.ValLaws.{to_z-of_z}
 use Rattle.format.proofs.Laws.Shifts.{inside}
 use Rattle.epoch.proofs.Bounds.{difference_back, difference_fits}
 use Rattle.epoch.proofs.Ways.{answer_length, answer_far, answer_over, answer_moved}
-use borrow.Author.Rules.{rules}
 use Rattle.epoch.proofs.shift_from.Goals as goal
 
 pub returns-then-bytes-ne-SHOT_LENGTH : goal.returns-then-bytes-ne-SHOT_LENGTH

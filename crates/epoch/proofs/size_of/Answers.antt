@@ -5,7 +5,6 @@ use lib.IntN.{nat_abs}
 use mir.Syntax.{w64}
 use mir.ValLaws.{to_z-of_z}
 use Rattle.epoch.proofs.Bounds.{fits_back, below_fits, below_cast, below_size, size_fits, above_cast}
-use borrow.Author.Rules.{rules}
 use Rattle.epoch.proofs.size_of.Goals as goal
 
 pub overflow_sub-result : goal.overflow_sub-result

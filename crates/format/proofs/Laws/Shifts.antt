@@ -1,5 +1,5 @@
 -- The laws of an epoch shift: each of its ways, and what a shot that was moved is known by.
-use Rattle.std.specs.Prelude.{◌≡◌, refl, true, false, ◌&&◌, List, [], ◌∷◌, ◌++◌, ℕ, zero, suc, ◌+◌, ◌*◌, ◌≤◌, take, drop, leb, eqb, ℤ, pos, nat_abs, ◌+ℤ◌, ◌*ℤ◌}
+use Rattle.std.specs.Prelude.{◌≡◌, refl, true, false, ◌&&◌, List, [], ◌∷◌, ◌++◌, ℕ, zero, suc, ◌+◌, ◌≤◌, take, drop, leb, eqb, ℤ, pos, nat_abs, ◌+ℤ◌, ◌*ℤ◌}
 use Rattle.std.proofs.Math.Path.{sym, ap}
 use Rattle.std.proofs.Common.{◌∙◌, subst, le_trans, mul-le-mul_left, mul-le-mul_right, arith, length-drop, take-append-drop, length-take-le, drop-drop, take_all}
 use Rattle.std.proofs.Math.Option.{Option, none, some}

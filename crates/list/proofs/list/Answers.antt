@@ -1,6 +1,5 @@
 -- What was read is the buffer's front; show hands its listing over, and a failed read hands over nothing.
 use mathlib.Core.Path.{sym, ◌∙◌}
-use borrow.Author.Rules.{rules}
 use Rattle.list.specs.HandingLaws.{lists_unread, lists_read}
 use Rattle.list.proofs.list.Goals as goal
 

@@ -1,13 +1,8 @@
 -- Behind each part the listing goes on from the reading, which has passed a byte for each turn; so the turns are enough.
-use mathlib.Core.Path.{sym, ap, ◌∙◌}
 use Prim.Native.Nat.{suc, ◌+◌, ◌*◌, ◌≤◌}
-use native.Mathlib.Omega.{arith}
-use borrow.Author.Rules.{rules}
 use Rattle.format.specs.Figures.{file_limit}
-use Rattle.format.specs.Reading.{Reading}
 use Rattle.reading.specs.Readings.{reading_of}
 use Rattle.list.specs.Handing.{room, Stands}
-use Rattle.list.specs.HandingLaws.{stands_start, handed_failed, handed_last, handed_on, handed_passes}
 use Rattle.list.proofs.show.Given as goal
 
 abbrev pub invariant-loop-turns : goal.invariant-loop-turns

@@ -1,6 +1,5 @@
 -- What fill wrote is the buffer's front, and the listing goes on with it from the reading.
 use native.Mathlib.Omega.{arith}
-use borrow.Author.Rules.{rules}
 use Rattle.list.specs.HandingLaws.{filled_inside_buffer, filled_next, filled_handed}
 use Rattle.list.proofs.show_some.Goals as goal
 

@@ -2,7 +2,6 @@
 use mathlib.Core.Path.{ap}
 use native.Mathlib.Omega.{arith}
 use Rattle.logbook_c.specs.declared.LogbookItem.{LogbookItem}
-use borrow.Author.Rules.{rules}
 use Rattle.logbook_c.proofs.assignment_item.Goals as goal
 
 pub overflow_add-x : goal.overflow_add-x

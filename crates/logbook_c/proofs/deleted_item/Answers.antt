@@ -1,5 +1,4 @@
 -- A bare item with the record's places.
-use borrow.Author.Rules.{rules}
 use Rattle.logbook_c.proofs.deleted_item.Goals as goal
 
 pub returns : goal.returns

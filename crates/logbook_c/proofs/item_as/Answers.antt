@@ -3,7 +3,6 @@ use mathlib.Core.Path.{subst}
 use lib.ListN.{length}
 use Rattle.reading.specs.declared.Item.{Item}
 use Rattle.logbook_c.specs.Items.{Bounded}
-use borrow.Author.Rules.{rules}
 use Rattle.logbook_c.proofs.item_as.Goals as goal
 
 pub deleted_item-requires : goal.deleted_item-requires

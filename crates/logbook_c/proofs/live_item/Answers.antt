@@ -1,5 +1,4 @@
 -- The row's struct is the row.
-use borrow.Author.Rules.{rules}
 use Rattle.logbook_c.proofs.live_item.Goals as goal
 
 pub returns : goal.returns

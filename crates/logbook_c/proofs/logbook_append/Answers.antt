@@ -1,6 +1,5 @@
 -- The library's answer, in a struct.
 use Rattle.logbook_c.specs.Answers.{append_told}
-use borrow.Author.Rules.{rules}
 use Rattle.logbook_c.proofs.logbook_append.Goals as goal
 
 pub returns : goal.returns

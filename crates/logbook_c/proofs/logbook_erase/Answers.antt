@@ -1,6 +1,5 @@
 -- The library's answer, in a struct.
 use Rattle.logbook_c.specs.Answers.{call_told, erased_as}
-use borrow.Author.Rules.{rules}
 use Rattle.logbook_c.proofs.logbook_erase.Goals as goal
 
 pub returns : goal.returns

@@ -1,7 +1,6 @@
 -- The library's reading, in a struct.
 use mathlib.Core.Path.{ap, ◌∙◌}
 use Rattle.reading.specs.Readings.{reading_of}
-use borrow.Author.Rules.{rules}
 use Rattle.logbook_c.proofs.logbook_fresh.Goals as goal
 
 pub returns : goal.returns

@@ -1,7 +1,6 @@
 -- What the library fills, with the reading in a struct.
 use Rattle.logbook_c.specs.Items.{list_told}
 use mathlib.Core.Path.{refl}
-use borrow.Author.Rules.{rules}
 use Rattle.logbook_c.proofs.logbook_list.Goals as goal
 
 pub returns : goal.returns

@@ -1,6 +1,5 @@
 -- The library's move, with the reading in a struct.
 use Rattle.logbook_c.specs.Moves.{outcome_bounded, move_told}
-use borrow.Author.Rules.{rules}
 use Rattle.logbook_c.proofs.logbook_move.Goals as goal
 
 pub outcome_as-requires : goal.outcome_as-requires

@@ -8,7 +8,6 @@ use Rattle.epoch.specs.Answers as Answers
 use Rattle.epoch.specs.Answers.{triple_of}
 use Rattle.epoch.proofs.Ways.{shift_known}
 use Rattle.logbook_c.specs.Shifts.{shifted_from, shift_told}
-use borrow.Author.Rules.{rules}
 use Rattle.logbook_c.proofs.logbook_shift.Goals as goal
 
 pub returns : goal.returns

@@ -1,7 +1,6 @@
 -- The library's slow reading, in a struct.
 use mathlib.Core.Path.{ap, ◌∙◌}
 use Rattle.slow.specs.Moving.{slow_of}
-use borrow.Author.Rules.{rules}
 use Rattle.logbook_c.proofs.logbook_slow_fresh.Goals as goal
 
 pub returns : goal.returns

@@ -2,7 +2,6 @@
 use Rattle.logbook_c.specs.Answers.{started_as}
 use mathlib.Core.Path.{ap, ◌∙◌}
 use Rattle.format.specs.Calls.{Start}
-use borrow.Author.Rules.{rules}
 use Rattle.logbook_c.proofs.logbook_start.Goals as goal
 
 pub returns : goal.returns

@@ -1,7 +1,6 @@
 -- The library's step, with the reading in a struct.
 use mathlib.Core.Path.{refl}
 use Rattle.logbook_c.specs.Items.{lying_bounded, step_told}
-use borrow.Author.Rules.{rules}
 use Rattle.logbook_c.proofs.logbook_step.Goals as goal
 
 pub item_as-requires : goal.item_as-requires

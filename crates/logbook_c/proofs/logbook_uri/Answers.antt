@@ -7,7 +7,6 @@ use Rattle.register.specs.declared.Row.{Row}
 use Rattle.fit.specs.Resolving.{resolved_of}
 use Rattle.fit.specs.declared.Resolved.{Resolved}
 use Rattle.logbook_c.specs.Items.{uri_as}
-use borrow.Author.Rules.{rules}
 use Rattle.logbook_c.proofs.logbook_uri.Goals as goal
 
 pub returns-in-Log : goal.returns-in-Log

@@ -3,7 +3,6 @@ use mathlib.Core.Path.{subst}
 use lib.ListN.{length}
 use Rattle.slow.specs.declared.Outcome.{Outcome}
 use Rattle.logbook_c.specs.Moves.{BoundedOutcome}
-use borrow.Author.Rules.{rules}
 use Rattle.logbook_c.proofs.outcome_as.Goals as goal
 
 pub item_as-requires : goal.item_as-requires

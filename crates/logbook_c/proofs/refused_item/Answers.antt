@@ -1,7 +1,6 @@
 -- A bare item with the refusal's number and place.
 use mathlib.Core.Path.{ap, ◌∙◌}
 use Rattle.logbook_c.specs.Items.{refused_as}
-use borrow.Author.Rules.{rules}
 use Rattle.logbook_c.proofs.refused_item.Goals as goal
 
 pub returns : goal.returns

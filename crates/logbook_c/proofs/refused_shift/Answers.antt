@@ -1,5 +1,4 @@
 -- Number and place are tell's, and the doubles of 0 have the literal's bits.
-use borrow.Author.Rules.{rules}
 use Rattle.epoch.proofs.DoubleLaws.{zero_double}
 use Rattle.logbook_c.proofs.refused_shift.Goals as goal
 

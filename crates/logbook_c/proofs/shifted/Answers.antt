@@ -1,5 +1,4 @@
 -- By the answer.
-use borrow.Author.Rules.{rules}
 use Rattle.logbook_c.proofs.shifted.Goals as goal
 
 pub returns-in-Moved : goal.returns-in-Moved

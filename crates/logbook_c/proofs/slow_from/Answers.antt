@@ -1,5 +1,4 @@
 -- The reading by its own function, the four numbers as they are.
-use borrow.Author.Rules.{rules}
 use Rattle.logbook_c.proofs.slow_from.Goals as goal
 
 pub returns : goal.returns

@@ -1,5 +1,4 @@
 -- By the answer; a refusal has its number and place from tell.
-use borrow.Author.Rules.{rules}
 use Rattle.logbook_c.proofs.wiped.Goals as goal
 
 pub returns-in-Stores : goal.returns-in-Stores

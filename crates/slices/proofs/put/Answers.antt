@@ -1,10 +1,8 @@
-use mathlib.Core.Path.{◌≡◌, ◌∙◌, refl, sym}
-use Prim.Native.Nat.{◌≤◌, ◌-◌}
+use mathlib.Core.Path.{◌∙◌, refl, sym}
 use native.Mathlib.Omega.{arith}
 use borrow.Author.Rules.{rules}
 use lib.Seq.{take_all}
-use lib.ListN.{length, take, length-set}
-use Rattle.format.specs.Bytes.{stored}
+use lib.ListN.{length-set}
 use Rattle.format.proofs.Laws.Bytes.{stored_none}
 use Rattle.slices.specs.Slices.{put_at}
 use Rattle.slices.proofs.put.Goals as goal

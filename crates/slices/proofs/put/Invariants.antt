@@ -1,13 +1,8 @@
 -- What is stored so far is the first i bytes of s; each turn stores one byte more behind them.
-use mathlib.Core.Path.{◌≡◌, ◌∙◌, refl, sym}
+use mathlib.Core.Path.{◌≡◌}
 use Prim.Native.Nat.{◌≤◌, ◌-◌}
-use native.Mathlib.Omega.{arith}
-use borrow.Author.Rules.{rules}
-use lib.Seq.{take_all}
-use lib.ListN.{length, take, length-set}
+use lib.ListN.{length, take}
 use Rattle.format.specs.Bytes.{stored}
-use Rattle.format.proofs.Laws.Bytes.{stored_none}
-use Rattle.slices.specs.Slices.{put_at}
 use Rattle.slices.proofs.put.Given as goal
 
 abbrev pub invariant-loop-i : goal.invariant-loop-i

@@ -1,10 +1,6 @@
-use mathlib.Core.Path.{◌≡◌, ◌∙◌, refl, sym}
-use Prim.Native.Nat.{◌-◌}
+use mathlib.Core.Path.{◌∙◌, refl, sym}
 use native.Mathlib.Omega.{arith}
 use borrow.Author.Tests.{eq-eqb, ne_eqb}
-use borrow.Author.Rules.{rules}
-use lib.ListN.{length, drop}
-use Rattle.format.specs.Bytes.{same}
 use Rattle.slices.specs.Slices.{same_lengths, same_at, same_end}
 use Rattle.slices.proofs.same_bytes.Goals as goal
 

@@ -1,12 +1,8 @@
 -- The bytes from i on are equal just when all are, as those before i are; other lengths are never equal.
-use mathlib.Core.Path.{◌≡◌, ◌∙◌, refl, sym}
+use mathlib.Core.Path.{◌≡◌}
 use Prim.Native.Nat.{◌-◌}
-use native.Mathlib.Omega.{arith}
-use borrow.Author.Tests.{eq-eqb, ne_eqb}
-use borrow.Author.Rules.{rules}
 use lib.ListN.{length, drop}
 use Rattle.format.specs.Bytes.{same}
-use Rattle.slices.specs.Slices.{same_lengths, same_at, same_end}
 use Rattle.slices.proofs.same_bytes.Given as goal
 
 abbrev pub invariant-loop-i : goal.invariant-loop-i

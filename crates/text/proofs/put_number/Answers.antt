@@ -1,7 +1,5 @@
 -- The digits, and one byte behind them.
 use native.Mathlib.Omega.{arith}
-use borrow.Author.Rules.{rules}
-use lib.ListN.{length-set}
 use Rattle.format.specs.Listing.{decimal}
 use Rattle.text.specs.Numerals.{laid_byte}
 use Rattle.text.proofs.put_number.Goals as goal

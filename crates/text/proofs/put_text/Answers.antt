@@ -1,7 +1,5 @@
 -- The bytes, and one byte behind them.
 use mathlib.Core.Path.{refl}
-use borrow.Author.Rules.{rules}
-use lib.ListN.{length-set}
 use Rattle.text.specs.Numerals.{laid_byte}
 use Rattle.text.proofs.put_text.Goals as goal
 

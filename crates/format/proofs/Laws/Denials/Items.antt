@@ -18,7 +18,7 @@ use Rattle.format.specs.Header.{header_form}
 use Rattle.format.specs.Register.{is_held, find, has_room, Named, Names, named_number, named_uri, uri_of}
 use Rattle.format.proofs.Laws.Register.{some_some}
 use Rattle.format.specs.Records.{Refusal, room_for, assignable, assignment_part, header_part, data_part, named_part, type_part, size_part, element, header_at, Origin, at_header, item}
-use Rattle.format.specs.Refusals.{Rule, rule, first_of, NoneDue, FirstDue, due, standing, is_among, InTable, value_in, size_at, record_at, body_at, type_at, data_at, assigned_number, assigned_uri, uri_at, is_named, is_incomplete, leads_with80, is_too_long, is_past_size, type_place, last_place, not_held, not_form, bad_assignment, is_too_many, no_room, integer_rules, data_rules, meaning_rules, record_rules, header_rules, element_rules, item_rules, refusal_of_got}
+use Rattle.format.specs.Refusals.{Rule, rule, first_of, NoneDue, FirstDue, due, standing, is_among, InTable, value_in, size_at, record_at, body_at, type_at, data_at, assigned_number, assigned_uri, uri_at, is_incomplete, leads_with80, is_too_long, is_past_size, type_place, last_place, not_held, not_form, bad_assignment, is_too_many, no_room, integer_rules, data_rules, meaning_rules, record_rules, header_rules, element_rules, item_rules, refusal_of_got}
 use Rattle.format.proofs.Laws.Denials.Integers.{ByTests, leading, long, short, over, read_tests}
 
 -- ---- the first rule

@@ -5,15 +5,15 @@ use Rattle.std.proofs.Common.{◌∙◌, arith}
 use mathlib.Core.List.{List, [], ◌∷◌, map}
 use Rattle.std.proofs.Math.ListN.{length}
 use Rattle.format.proofs.Laws.Cases.{by_test, from_zero_one}
-use Rattle.format.specs.Records.{refusal, Item, padding, deleted, live, Origin, logbook}
+use Rattle.format.specs.Records.{refusal, padding, deleted, live, Origin, logbook}
 use Rattle.format.specs.Reading.{Reading, fresh, Shown, shown, end, refused, stepped, step}
 use Rattle.format.specs.Calls.{Book, sound, parted, step_on}
-use Rattle.format.specs.Grammar.{Listed, listed_at}
+use Rattle.format.specs.Grammar.{Listed}
 use Rattle.format.specs.Interleaving.{world, steps, ReplyOf, said, showed, listing, reply as reply_by, next as next_by, replies as replies_by}
 use Rattle.format.specs.Series.{Reply, replies, ToEnd, Reads}
 use Rattle.format.specs.Entries.{told, listed, entries_of}
 use Rattle.format.specs.Moves.{Held, nothing, Slow, slow, fresh_slow, Told, tells, holds, Moved, moved_to, move, move_on, and_on, three_moves, AsStep, as_done, as_refused}
-use Rattle.format.specs.SlowSeries.{slowly, Line, line_listed, lines_of, lives, step_lines, MovesToEnd, Undisturbed}
+use Rattle.format.specs.SlowSeries.{slowly, line_listed, lines_of, lives, step_lines, MovesToEnd, Undisturbed}
 use Rattle.format.proofs.Laws.Moves.{three_moves_lem}
 use Rattle.format.proofs.Laws.Lists.Steps.{entries_read}
 

@@ -12,7 +12,7 @@ use Rattle.format.specs.Register.{Names}
 use Rattle.format.specs.Records.{Item, padding, deleted, got, element, Origin, at_header, item}
 use Rattle.format.specs.Reading.{walk, Reading, fresh, no_report, shown, end, declared_by}
 use Rattle.format.specs.Calls.{Book, parts, parted, book_of, sound}
-use Rattle.format.specs.Moves.{nothing, sized, Slow, slow, Told, tells, holds, moved_to, move}
+use Rattle.format.specs.Moves.{nothing, Slow, slow, Told, tells, holds, moved_to, move}
 use Rattle.format.specs.Series.{is_end, is_refused, Reads}
 use Rattle.format.specs.Interleaving.{Event, steps, ReplyOf, showed, listing}
 use Rattle.format.specs.SlowSeries.{passed_to, is_end_told, is_refused_told, slowly, lines_of, lives, MovesToEnd, SlowPremise, SameInBothSlow}

@@ -2,7 +2,6 @@
 use mathlib.Core.Path.{◌≡◌}
 use Prim.Native.Nat.{◌≤◌, ◌-◌}
 use lib.ListN.{length}
-use borrow.Author.Rules.{rules}
 use Rattle.list.proofs.input.take_all.Given as goal
 
 abbrev pub invariant-loop-len : goal.invariant-loop-len
