@@ -1,5 +1,5 @@
 -- Where the item that a step shows stands, its number, which row gave it its URI; and where the end is shown.
-use Rattle.std.specs.Prelude.{◌≡◌, Bool, true, false, cond, drop, eqb}
+use Rattle.std.specs.Prelude.{◌≡◌, Bool, true, false, cond, drop}
 use Rattle.std.proofs.Math.Path.{refl, sym, ap}
 use Rattle.std.proofs.Common.{◌∙◌, subst, eqb-true, length-append, take-append-drop, drop_at}
 use mathlib.Core.List.{List, [], ◌∷◌, ◌++◌}
@@ -14,15 +14,14 @@ use Rattle.format.proofs.Laws.Bytes.{part_more}
 use Rattle.format.specs.Figures.{size_bytes, number_bytes, header_length}
 use Rattle.format.specs.Integers.{value, read_integer}
 use Rattle.format.proofs.Laws.Integers.{read_exact}
-use Rattle.format.specs.Uris.{type_name, header_name}
-use Rattle.format.specs.Register.{find, Row, KeptRow, number_of, held_rows, uri_in, implied_row, implied_name, Named, implied, Names, named_number, named_uri, name_in, row_for}
+use Rattle.format.specs.Register.{find, Row, KeptRow, number_of, held_rows, uri_in, implied_row, Named, implied, Names, named_number, named_uri, name_in, row_for}
 use Rattle.format.proofs.Laws.Register.{find_number, InsideKept, seen_find, seen_uri, seen_row, some_some}
 use Rattle.format.specs.Records.{Entry, entry_of, Kind, header, Refusal, refusal, Item, padding, deleted, live, Got, bad, got, element, header_at, logbook, at_header, item}
 use Rattle.format.specs.Reading.{Reading, fits, names_in, counted, declared_in, Report, report_of, shown, end, refused, Stepped, stepped, declared_by, table_after, declaration, moved, at_end, step_at, step}
-use Rattle.format.specs.Calls.{Book, used_bytes, parted, is_within, sound, step_on, in_names, in_log, resolve_row, fit_alone, resolve, no_uri, uri_there}
+use Rattle.format.specs.Calls.{Book, used_bytes, parted, sound, step_on, fit_alone, resolve, uri_there}
 use Rattle.format.proofs.Laws.Calls.{used_long}
 use Rattle.format.specs.Refusals.{Fitting}
-use Rattle.format.proofs.Laws.Denials.Fits.{fits_mean, fit_inside, alone_fits, row_inside, declared_found, row_fits_alone}
+use Rattle.format.proofs.Laws.Denials.Fits.{fits_mean, row_inside, declared_found, row_fits_alone}
 use Rattle.format.specs.Grammar.{RecordOf, writing, High, NoEmptyLead, leads_value}
 use Rattle.format.specs.Shapes.{HeaderShape}
 use Rattle.format.specs.Entries.{EntryAt, ItemAt, a_padding, a_deleted, an_entry, Counted, Shows, Ends, RowFrom, of_header, of_reading, RowShown}
@@ -32,6 +31,7 @@ use Rattle.format.proofs.Laws.Order.Changes.{head_entry, head_item}
 use Rattle.format.proofs.Laws.Lists.Shapes.{header_long, shape_header}
 use Rattle.format.proofs.Laws.Lists.Parsing.{record_read, head_got, first_two}
 use Rattle.format.proofs.Laws.Lists.Numbers.{Counts, step_counts, refused_shown, shown_item, end_shown}
+use Rattle.format.proofs.Laws.Lists.Resolving.{resolved}
 use Rattle.format.proofs.Laws.Lists.Places.{not_deleted_lem, not_padding, live_entry}
 
 -- ---- a record's data are its bytes from the data place to its end
@@ -232,42 +232,6 @@ step_ends b r r1 p e =
     (λ s. refused_end (answer_of (rw s at e)))
 
 -- ---- the row
--- a row that fits is told from the log, and asked for, its URI is given
-module _ (b : Book) (s : sound b ≡ true) (x : Row) where
-  implied_there : (n : ℕ) → uri_there (used_bytes b) (cond (eqb n 1) (in_names 0 16) (in_names 16 18)) ≡ some (implied_name n)
-  unfolding type_name header_name
-  implied_there n = by_test (eqb n 1) (λ e. rw e) (λ e. rw e)
-
-  row_there : uri_there (used_bytes b) (resolve_row x) ≡ some (uri_in (used_bytes b) x)
-  unfolding uri_in
-  row_there = by_test x.implied (λ e. rw e (implied_there x.number)) (λ e. rw e)
-
-  resolved : fit_alone b.used x ≡ true → uri_there (used_bytes b) (resolve (length b.buffer) b.used x) ≡ some (uri_in (used_bytes b) x)
-  unfolding resolve sound
-  resolved f = rw (s, f) row_there
-
--- what is given lies in the used bytes
-not_inside : {P : Type 0} {x : Refusal} {p n : ℕ} → no_uri x ≡ in_log p n → P
-not_inside e = from_zero_one (cc)
-
-names_inside : {P : Type 0} (b : Bool) {p n : ℕ} → cond b (in_names 0 16) (in_names 16 18) ≡ in_log p n → P
-names_inside true e = from_zero_one (cc)
-names_inside false e = from_zero_one (cc)
-
-log_place : {p n q m : ℕ} → in_log p n ≡ in_log q m → (p ≡ q) × (n ≡ m)
-log_place e = (cc, cc)
-
-pub resolved_inside : (len used : ℕ) (r : Row) (p n : ℕ) → resolve len used r ≡ in_log p n → p + n ≤ used
-unfolding resolve
-resolved_inside len used r p n e =
-    by_test (is_within len used)
-    (λ s. by_test (fit_alone used r)
-    (λ f. by_test r.implied
-    (λ i. names_inside (eqb r.number 1) (rw (s, f, i) at e))
-    (λ i. let q = log_place (rw (s, f, i) at e) in omega (arith, q.0, q.1, (fit_inside used used r (omega arith) (alone_fits used r f)).within)))
-    (λ f. not_inside (rw (s, f) at e)))
-    (λ s. not_inside (rw s at e))
-
 -- the row of an entry, and what the reading reports of it
 abbrev Rowed : Book → Reading → Entry → Type 0
 Rowed b r e = RowShown b r e (declared_in e.row (held_rows r.table))
