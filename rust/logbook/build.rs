@@ -13,7 +13,7 @@ fn main() {
     // Only a warning: `cargo check` and `cargo doc` need no archive. A build ends at rustc's error.
     if !archive.is_file() {
         println!(
-            "cargo:warning={} is missing: run `rt lib logbook_c` at the repository's root \
+            "cargo:warning={} is missing: run `rt lib` in the repository's crates/logbook_c \
              first",
             archive.display()
         );

@@ -37,7 +37,7 @@
 //! A [`Place`] counts bytes from the buffer's start, an [`EntryNumber`] counts live entries. They
 //! are two types, so that one is never taken for the other.
 //!
-//! To build a program over this crate, run `rt lib logbook_c` at the repository's root first,
+//! To build a program over this crate, run `rt lib` in the repository's `crates/logbook_c` first,
 //! or name the folder of `liblogbook_c.a` in `LOGBOOK_LIB_DIR`.
 
 #![warn(missing_docs)]
