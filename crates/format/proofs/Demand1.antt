@@ -13,9 +13,9 @@ use Rattle.format.proofs.Laws.Denials.Fits.{fits_mean}
 use Rattle.format.proofs.Laws.Denials.Walks.{walks_mean, register_means, found_means}
 use Rattle.format.proofs.Laws.Denials.Answers.{call_refusal, call_own, call_keeps_lem, call_numbered, step_refusal, step_keeps_lem, step_numbered, start_refusal, start_keeps_lem, start_numbered}
 use Rattle.format.proofs.Laws.Denials.Moves.{move_refusal, move_keeps_lem, move_numbered, slow_fits_mean}
-use Rattle.format.specs.Demand1.{Demand1}
+use Rattle.format.specs.Demand1.{Demand1, Demand1Holds}
 
-pub demand1 : (b : Book) (r : Reading) → Demand1 b r
+pub demand1 : Demand1Holds
 demand1 b r =
     record {
       calls = λ c. call_refusal logbook c b;

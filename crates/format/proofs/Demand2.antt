@@ -13,9 +13,9 @@ use Rattle.format.proofs.Laws.Lists.Erasing.{erase_exact, wipe_exact}
 use Rattle.format.proofs.Laws.Lists.Adding.{append_exact, assign_exact}
 use Rattle.format.proofs.Laws.Lists.Answering.{append_answers, assign_answers, wipe_answers}
 use Rattle.format.proofs.Laws.Lists.Starting.{start_exact}
-use Rattle.format.specs.Demand2.{Demand2}
+use Rattle.format.specs.Demand2.{Demand2, Demand2Holds}
 
-pub demand2 : (b : Book) → Demand2 b
+pub demand2 : Demand2Holds
 demand2 b =
     record {
       names = names_written;

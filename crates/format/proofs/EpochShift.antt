@@ -5,7 +5,7 @@ use Rattle.format.specs.Figures.{coordinate_limit, difference_limit, motion_limi
 use Rattle.format.specs.Epochs.{Triple, position_of, difference_of, moved_of, yearly_of, Shot, shifted, shift, Inside}
 use Rattle.format.proofs.Laws.Epochs.{epoch_uri}
 use Rattle.format.proofs.Laws.Shifts.{Done, shot_done, inside, moved_along, position_size_lem, product_size_lem, point_size_lem, motion_size_lem, shot_laid}
-use Rattle.format.specs.EpochShift.{Moves, Shifts}
+use Rattle.format.specs.EpochShift.{Moves, Shifts, ShiftsHold}
 
 moves : (p m d : ℤ) → nat_abs p ≤ coordinate_limit → nat_abs m ≤ motion_limit → nat_abs d ≤ difference_limit → Moves p m d (moved_of p m d) (yearly_of m)
 moves p m d hp hm hd =
@@ -19,7 +19,7 @@ moves p m d hp hm hd =
     }
 
 -- any URI, data, asked epoch and motion
-pub shifts : (u d : List ℕ) (asked : ℤ) (m : Triple) (s : Shot) → shift u d asked m ≡ shifted s → Shifts u d asked m s
+pub shifts : ShiftsHold
 shifts u d asked m s e =
     let w : Done u d asked m s = shot_done u d asked m s e in
     let i : Inside (position_of d) (difference_of asked w.epoch) m = inside (position_of d) (difference_of asked w.epoch) m w.is_inside in

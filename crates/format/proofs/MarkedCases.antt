@@ -10,10 +10,10 @@ use Rattle.format.specs.Reading.{walk, walk_all, look, look_at, all_unused, fit_
 use Rattle.format.specs.Calls.{parted, book_of, sound, record_of, write, append_new, append_held, append_walked, assign_under, assign_walked, may_append, may_assign, erase_entry, erase_item, erase_looked, is_blank, clear_first, clear_last, store, stores, nonzeros, splice, wipe_item, wipe_looked, call, call_on, start}
 use Rattle.format.specs.Listing.{decimal_in, decimal, line, entry_line, end_line, refused_line, item_line, shown_text, listing_from, listing_on, listing}
 use Rattle.format.specs.Epochs.{number_from, epoch_in, epoch_of, big_endian, signed, coordinate_at, position_of, in_bounds, shift_from, shift_named, shift}
-use Rattle.format.specs.MarkedCases.{Case, table, told, answers_of, book_after}
+use Rattle.format.specs.MarkedCases.{Case, table, told, answers_of, book_after, Marked}
 
 -- ---- the statement: each case is told what the table says
-pub marked : map (λ (c : Case). map told c.asked) table ≡ map (λ (c : Case). c.answers) table
+pub marked : Marked
 unfolding same stored digits is_empty_lead read_integer write_leads write_integer class_of rest_form scheme_form uri_form is_uri
     type_name header_name deleted_name allowed is_reserved appendable marker is_hex all_hex dashed uuid_form header_form hex_digit
     hex_text uuid_text header_of find insert remove has_room free_from holder table_of uri_of number_for assigned room_for assignable

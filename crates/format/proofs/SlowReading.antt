@@ -10,7 +10,7 @@ use Rattle.format.specs.SlowSeries.{slowly, Undisturbed}
 use Rattle.format.proofs.Laws.Moves.{record_parts, three_moves_lem, move_stays, first_place, letter_spares}
 use Rattle.format.proofs.Laws.Lists.Moves.{moves_steps, moves_entries}
 use Rattle.format.proofs.Demand3.{demand3_slowly}
-use Rattle.format.specs.SlowReading.{SlowReading}
+use Rattle.format.specs.SlowReading.{SlowReading, SlowReadingHolds}
 
 -- the series with no call in it
 undisturbed : (b : Book) → Reads logbook b → (ps : List (ReplyOf Told Slow)) × Undisturbed b ps
@@ -22,7 +22,7 @@ undisturbed b r =
     (m.whole, record { is_to_end = m.to_end; read = e })
 
 -- any buffer and used length
-pub slow_reading : (b : Book) → SlowReading b
+pub slow_reading : SlowReadingHolds
 slow_reading b =
     record {
       parts = record_parts;

@@ -2,7 +2,7 @@
 use Rattle.std.specs.Prelude.{◌≡◌, List, ℕ, ◌≤◌, ℤ, pos, nat_abs, ◌+ℤ◌, ◌-ℤ◌, ◌*ℤ◌}
 use Rattle.format.specs.Bytes.{AreBytes}
 use Rattle.format.specs.Shapes.{EpochUri, ShotBytes}
-use Rattle.format.specs.Epochs.{Triple, Shot}
+use Rattle.format.specs.Epochs.{Triple, Shot, shift, shifted}
 
 -- one coordinate, of p tenths of a millimetre with m a year, d hundredths of a year on
 pub record Moves (p m d : ℤ) (point motion : ℤ) : Type 0 where
@@ -26,3 +26,7 @@ pub record Shifts (u d : List ℕ) (asked : ℤ) (m : Triple) (s : Shot) : Type 
   pub moves_x : Moves s.position.x m.x (asked -ℤ pos s.epoch) s.point.x s.motion.x
   pub moves_y : Moves s.position.y m.y (asked -ℤ pos s.epoch) s.point.y s.motion.y
   pub moves_z : Moves s.position.z m.z (asked -ℤ pos s.epoch) s.point.z s.motion.z
+
+-- of any URI, data, asked epoch and motion
+abbrev pub ShiftsHold : Type 0
+ShiftsHold = (u d : List ℕ) (asked : ℤ) (m : Triple) (s : Shot) → shift u d asked m ≡ shifted s → Shifts u d asked m s

@@ -29,3 +29,7 @@ pub record SlowReading (b : Book) : Type 0 where
   pub entries : (ps : List (ReplyOf Told Slow)) → Undisturbed b ps → map line_listed (listing lives ps) ≡ entries_of b
   -- "no wipe on a record whose type the reading has taken and whose data it hasn't": that, by its letter, is enough
   pub letter : (s : Slow) (c : Call) → wipes_taken s c ≡ false → spares_call logbook b s c ≡ true
+
+-- of any buffer and used length
+abbrev pub SlowReadingHolds : Type 0
+SlowReadingHolds = (b : Book) → SlowReading b

@@ -12,8 +12,10 @@ ghost use Rattle.list.specs.Handing.{Shows, Lists, room, HandsOver, Stands};
 use input::Taken;
 use output::Handed;
 use reading::Reading;
+use std::env::{Env, FillError};
 use std::io::Read;
-use std::{env, fs, io};
+use std::rt::Files;
+use std::{fs, io};
 
 // One byte more than a listing takes tells a file that is too long.
 const FILE_ROOM: usize = format::FILE_LIMIT + 1;
@@ -106,19 +108,31 @@ fn list<R: Print + Eprint, F: Read>(
     Outcome { taken, handed }
 }
 
-fn main(rt: HostRuntime) -> io::Result<()> {
-    let mut file = [0u8; FILE_ROOM];
-    let mut args = env::args(&rt)?;
-    let _program = args.next();
-    let Some(path) = args.next() else {
-        list(&rt, "standard input", &mut rt.stdin(), &mut file);
-        return Ok(());
+// The bytes of a path, as it is handed in.
+const PATH_ROOM: usize = 4096;
+
+// Lists the file that a path names, or says why it can't be opened.
+fn list_named<R: Files + Print + Eprint>(rt: &R, path: &[u8], file: &mut [u8; FILE_ROOM]) {
+    let Ok(name) = str::from_utf8(path) else {
+        output::fail(rt, "path", &io::Error::from(io::ErrorKind::InvalidInput));
+        return;
     };
-    match fs::open(&rt, path.as_str()) {
+    match fs::open(rt, name) {
         Ok(mut from) => {
-            list(&rt, path.as_str(), &mut from, &mut file);
+            list(rt, name, &mut from, file);
         }
-        Err(why) => output::fail(&rt, path.as_str(), &why),
+        Err(why) => output::fail(rt, name, &why),
     }
-    Ok(())
+}
+
+fn main(rt: HostRuntime) {
+    let mut file = [0u8; FILE_ROOM];
+    let mut path = [0u8; PATH_ROOM];
+    match rt.arg(1, &mut path) {
+        Ok(len) => list_named(&rt, &path[..len], &mut file),
+        Err(FillError::NotPresent) => {
+            list(&rt, "standard input", &mut rt.stdin(), &mut file);
+        }
+        Err(_) => output::fail(&rt, "path", &io::Error::from(io::ErrorKind::InvalidInput)),
+    }
 }

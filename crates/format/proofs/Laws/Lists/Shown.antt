@@ -15,7 +15,7 @@ use Rattle.format.specs.Figures.{size_bytes, number_bytes, header_length}
 use Rattle.format.specs.Integers.{value, read_integer}
 use Rattle.format.proofs.Laws.Integers.{read_exact}
 use Rattle.format.specs.Register.{find, Row, KeptRow, number_of, held_rows, uri_in, implied_row, Named, implied, Names, named_number, named_uri, name_in, row_for}
-use Rattle.format.proofs.Laws.Register.{find_number, InsideKept, seen_find, seen_uri, seen_row, some_some}
+use Rattle.format.proofs.Laws.Register.{find_number, seen_find, seen_uri, seen_row, some_some}
 use Rattle.format.specs.Records.{Entry, entry_of, Kind, header, Refusal, refusal, Item, padding, deleted, live, Got, bad, got, element, header_at, logbook, at_header, item}
 use Rattle.format.specs.Reading.{Reading, fits, names_in, counted, declared_in, Report, report_of, shown, end, refused, Stepped, stepped, declared_by, table_after, declaration, moved, at_end, step_at, step}
 use Rattle.format.specs.Calls.{Book, used_bytes, parted, sound, step_on, fit_alone, resolve, uri_there}
@@ -33,6 +33,7 @@ use Rattle.format.proofs.Laws.Lists.Parsing.{record_read, head_got, first_two}
 use Rattle.format.proofs.Laws.Lists.Numbers.{Counts, step_counts, refused_shown, shown_item, end_shown}
 use Rattle.format.proofs.Laws.Lists.Resolving.{resolved}
 use Rattle.format.proofs.Laws.Lists.Places.{not_deleted_lem, not_padding, live_entry}
+use Rattle.format.specs.Rows.{InsideKept}
 
 -- ---- a record's data are its bytes from the data place to its end
 data_to_end : (l : List ℕ) (p q n : ℕ) (w d : List ℕ) (r : RecordOf w n d) → part_of p q l ≡ w → d ≡ part_of (p + length r.size + length r.type) q l

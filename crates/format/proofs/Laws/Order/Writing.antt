@@ -22,8 +22,9 @@ use Rattle.format.specs.Calls.{parts, Call, append, assign, erase, wipe, appende
 use Rattle.format.proofs.Laws.Requests.{asked_append, asked_assign}
 use Rattle.format.specs.Series.{early, mark_call}
 use Rattle.format.proofs.Laws.Order.Items.{judged, Piece, piece_join, record_piece, walk_append, walk_start, past_start}
-use Rattle.format.proofs.Laws.Order.Standing.{All, Number, StandsRow, row_number_lem, Stands, stands_more, walk_stands}
+use Rattle.format.proofs.Laws.Order.Standing.{Number, StandsRow, row_number_lem, Stands, stands_more, walk_stands}
 use Rattle.format.proofs.Laws.Order.Frames.{Fits, fits_stands, Good, EarlyOf, early_refused, early_erase, early_wipe, aimed_early, ends_with}
+use Rattle.format.specs.Rows.{All}
 
 -- ---- a written integer of at most k + 1 bytes
 module _ (k n : ℕ) where
