@@ -3,8 +3,8 @@
 
 usage: tools/turn_proofs.py [--keep-search] CRATE [F..]    at the top of the repository
 
-It takes each goal's and each step's new name from names.json, which `rt check --generated DIR --old-names` writes for the crate; DIR
-is /tmp/turn-proofs/CRATE, made where it is not there. Answers that the check finds alone (search rules, omega arith) are left out.
+It takes each goal's and each step's new name from names.json, which `rt check --generated DIR --old-names` writes for the crate, into
+turn-proofs/CRATE of the system's folder for such files where it is not there yet. Answers that the check finds alone (search rules, omega arith) are left out.
 What it can't turn it leaves as it stands, for the check to name; the old file goes.
 """
 import json
@@ -12,6 +12,7 @@ import os
 import re
 import subprocess
 import sys
+import tempfile
 
 NAME = r"[A-Za-z_À-￿][\w'₀-₉-]*"
 BLOCK = re.compile(r"^(?=[^\s)\]}])", re.M)
@@ -23,7 +24,7 @@ def norm(name):
 
 
 def names_of(crate):
-    to = f"/tmp/turn-proofs/{crate}"
+    to = os.path.join(tempfile.gettempdir(), "turn-proofs", crate)
     if not os.path.exists(f"{to}/names.json"):
         r = subprocess.run(["rt", "check", "--generated", to, "--old-names"], cwd=f"crates/{crate}", capture_output=True, text=True)
         if not os.path.exists(f"{to}/names.json"):

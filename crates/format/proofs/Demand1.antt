@@ -1,8 +1,6 @@
 -- Demand 1 is proved, of any buffer, used length and reading; Laws/Denials is behind it.
 use Rattle.std.specs.Prelude.{refl}
 use Rattle.format.specs.Records.{logbook}
-use Rattle.format.specs.Reading.{Reading}
-use Rattle.format.specs.Calls.{Book}
 use Rattle.format.proofs.Laws.Epochs.{epochs_mean}
 use Rattle.format.proofs.Laws.Denials.Shifts.{shift_refusal, shift_numbered}
 use Rattle.format.proofs.Laws.Denials.Integers.{leads_mean}
@@ -13,7 +11,7 @@ use Rattle.format.proofs.Laws.Denials.Fits.{fits_mean}
 use Rattle.format.proofs.Laws.Denials.Walks.{walks_mean, register_means, found_means}
 use Rattle.format.proofs.Laws.Denials.Answers.{call_refusal, call_own, call_keeps_lem, call_numbered, step_refusal, step_keeps_lem, step_numbered, start_refusal, start_keeps_lem, start_numbered}
 use Rattle.format.proofs.Laws.Denials.Moves.{move_refusal, move_keeps_lem, move_numbered, slow_fits_mean}
-use Rattle.format.specs.Demand1.{Demand1, Demand1Holds}
+use Rattle.format.specs.Demand1.{Demand1Holds}
 
 pub demand1 : Demand1Holds
 demand1 b r =

@@ -1,6 +1,5 @@
 -- Demand 2 is proved, of any buffer and used length; Laws/Lists is behind it.
 use Rattle.format.proofs.Laws.Header.{digits_lower}
-use Rattle.format.specs.Calls.{Book}
 use Rattle.format.proofs.Laws.Lists.Shapes.{names_written}
 use Rattle.format.proofs.Laws.Lists.Walking.{one_list_lem}
 use Rattle.format.proofs.Laws.Lists.Steps.{reading_sound, reading_complete, entries_read}
@@ -13,7 +12,7 @@ use Rattle.format.proofs.Laws.Lists.Erasing.{erase_exact, wipe_exact}
 use Rattle.format.proofs.Laws.Lists.Adding.{append_exact, assign_exact}
 use Rattle.format.proofs.Laws.Lists.Answering.{append_answers, assign_answers, wipe_answers}
 use Rattle.format.proofs.Laws.Lists.Starting.{start_exact}
-use Rattle.format.specs.Demand2.{Demand2, Demand2Holds}
+use Rattle.format.specs.Demand2.{Demand2Holds}
 
 pub demand2 : Demand2Holds
 demand2 b =

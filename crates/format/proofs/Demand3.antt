@@ -1,9 +1,5 @@
 -- Demand 3 is proved, of readings by steps and by moves; Laws/Order is behind it.
-use Rattle.std.specs.Prelude.{List}
 use Rattle.format.specs.Records.{logbook}
-use Rattle.format.specs.Calls.{Book}
-use Rattle.format.specs.Series.{Event, Reads, SameInBoth}
-use Rattle.format.specs.SlowSeries.{SlowPremise, SameInBothSlow}
 use Rattle.format.proofs.Laws.Order.Standing.{stands_none}
 use Rattle.format.proofs.Laws.Order.Frames.{fresh_sees}
 use Rattle.format.proofs.Laws.Order.Runs.{same_in_both}

@@ -1,8 +1,8 @@
 -- An epoch shift does what it promises.
-use Rattle.std.specs.Prelude.{◌≡◌, refl, List, ℕ, ◌≤◌, ℤ, nat_abs}
+use Rattle.std.specs.Prelude.{refl, ◌≤◌, ℤ, nat_abs}
 use Rattle.std.proofs.Common.{subst}
 use Rattle.format.specs.Figures.{coordinate_limit, difference_limit, motion_limit}
-use Rattle.format.specs.Epochs.{Triple, position_of, difference_of, moved_of, yearly_of, Shot, shifted, shift, Inside}
+use Rattle.format.specs.Epochs.{position_of, difference_of, moved_of, yearly_of, Inside}
 use Rattle.format.proofs.Laws.Epochs.{epoch_uri}
 use Rattle.format.proofs.Laws.Shifts.{Done, shot_done, inside, moved_along, position_size_lem, product_size_lem, point_size_lem, motion_size_lem, shot_laid}
 use Rattle.format.specs.EpochShift.{Moves, Shifts, ShiftsHold}

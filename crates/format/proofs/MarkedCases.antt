@@ -1,5 +1,5 @@
 -- The marked cases are told what the table says, computed from the definitions.
-use Rattle.std.specs.Prelude.{◌≡◌, refl, map}
+use Rattle.std.specs.Prelude.{refl}
 use Rattle.format.specs.Bytes.{same, stored}
 use Rattle.format.specs.Integers.{digits, is_empty_lead, read_integer, write_leads, write_integer}
 use Rattle.format.specs.Uris.{class_of, rest_form, scheme_form, uri_form, is_uri, type_name, header_name, deleted_name, allowed, is_reserved, appendable}
@@ -10,7 +10,7 @@ use Rattle.format.specs.Reading.{walk, walk_all, look, look_at, all_unused, fit_
 use Rattle.format.specs.Calls.{parted, book_of, sound, record_of, write, append_new, append_held, append_walked, assign_under, assign_walked, may_append, may_assign, erase_entry, erase_item, erase_looked, is_blank, clear_first, clear_last, store, stores, nonzeros, splice, wipe_item, wipe_looked, call, call_on, start}
 use Rattle.format.specs.Listing.{decimal_in, decimal, line, entry_line, end_line, refused_line, item_line, shown_text, listing_from, listing_on, listing}
 use Rattle.format.specs.Epochs.{number_from, epoch_in, epoch_of, big_endian, signed, coordinate_at, position_of, in_bounds, shift_from, shift_named, shift}
-use Rattle.format.specs.MarkedCases.{Case, table, told, answers_of, book_after, Marked}
+use Rattle.format.specs.MarkedCases.{told, answers_of, book_after, Marked}
 
 -- ---- the statement: each case is told what the table says
 pub marked : Marked

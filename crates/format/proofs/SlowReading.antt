@@ -10,7 +10,7 @@ use Rattle.format.specs.SlowSeries.{slowly, Undisturbed}
 use Rattle.format.proofs.Laws.Moves.{record_parts, three_moves_lem, move_stays, first_place, letter_spares}
 use Rattle.format.proofs.Laws.Lists.Moves.{moves_steps, moves_entries}
 use Rattle.format.proofs.Demand3.{demand3_slowly}
-use Rattle.format.specs.SlowReading.{SlowReading, SlowReadingHolds}
+use Rattle.format.specs.SlowReading.{SlowReadingHolds}
 
 -- the series with no call in it
 undisturbed : (b : Book) → Reads logbook b → (ps : List (ReplyOf Told Slow)) × Undisturbed b ps
