@@ -114,7 +114,7 @@ const PATH_ROOM: usize = 4096;
 // Lists the file that a path names, or says why it can't be opened.
 fn list_named<R: Files + Print + Eprint>(rt: &R, path: &[u8], file: &mut [u8; FILE_ROOM]) {
     let Ok(name) = str::from_utf8(path) else {
-        output::fail(rt, "path", &io::Error::from(io::ErrorKind::InvalidInput));
+        output::fail(rt, "path", &io::Error::from(io::ErrorKind::InvalidFilename));
         return;
     };
     match fs::open(rt, name) {
@@ -133,6 +133,10 @@ fn main(rt: HostRuntime) {
         Err(FillError::NotPresent) => {
             list(&rt, "standard input", &mut rt.stdin(), &mut file);
         }
-        Err(_) => output::fail(&rt, "path", &io::Error::from(io::ErrorKind::InvalidInput)),
+        Err(_) => output::fail(
+            &rt,
+            "path",
+            &io::Error::from(io::ErrorKind::InvalidFilename),
+        ),
     }
 }
