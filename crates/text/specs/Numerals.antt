@@ -43,6 +43,8 @@ module _ (d : List ℕ) (at v : ℕ) (fits : at + length (decimal v) ≤ length 
       let l = more_length v h in
       rw (decimal_more v h) (stored_byte d at (decimal (v / 10)) (omega arith) n (0x30 + v % 10) e (omega arith))
 
+pub ruleset numeral_steps = (digit_length, more_length, put_digit, put_more)
+
 -- ---- texts one behind another: x stored at a place of d gives e, and ends at n
 abbrev pub Laid : List ℕ → ℕ → List ℕ → List ℕ → ℕ → Type 0
 Laid d at x e n = (n ≡ at + length x) × (e ≡ stored d at x)

@@ -1,26 +1,15 @@
-use mathlib.Core.Path.{◌∙◌, refl, sym}
-use native.Mathlib.Omega.{arith}
-use borrow.Author.Tests.{eq-eqb, ne_eqb}
-use Rattle.slices.specs.Slices.{same_lengths, same_at, same_end}
+-- By induction: std's equality of slices goes as `same` does.
+use Rattle.std.proofs.Common.{◌≡◌, refl, ◌∙◌, List, [], ◌∷◌, ℕ, nat_eq}
+use Rattle.std.specs.Cmp.Lexicographic.{pointwise}
+use Rattle.format.specs.Bytes.{same}
 use Rattle.slices.proofs.same_bytes.Goals as goal
 
-pub returns-then-a-b : goal.returns-then-a-b
-returns-then-a-b c = sym (same_lengths _ _ c.if-a-b.true)
-
-pub loop-i-init : goal.loop-i-init
-loop-i-init c = refl
-
-pub returns-then-a-i : goal.returns-then-a-i
-returns-then-a-i c = let l = c in
-    let a = l.args in
-    sym (l.loop-i.invariant ∙ same_at a.a.now a.b.now l.loop-i.i (omega arith) (omega arith) ∙ simp (ne_eqb _ _ c.if-a-i.true))
-
-pub loop-i-preserved : goal.loop-i-preserved
-loop-i-preserved c = let l = c in
-    let a = l.args in
-    l.loop-i.invariant ∙ same_at a.a.now a.b.now l.loop-i.i (omega arith) (omega arith) ∙ simp (eq-eqb _ _ c.if-a-i.false)
+pointwise_same : (xs ys : List ℕ) → pointwise nat_eq xs ys ≡ same xs ys
+unfolding same
+pointwise_same [] [] = refl
+pointwise_same [] (y ∷ ys) = refl
+pointwise_same (x ∷ xs) [] = refl
+pointwise_same (x ∷ xs) (y ∷ ys) = rw (pointwise_same xs ys)
 
 pub returns : goal.returns
-returns c = let l = c in
-    let a = l.args in
-    sym (l.loop-i.invariant ∙ same_end a.a.now a.b.now l.loop-i.i (omega arith) (omega arith))
+returns c = c.eq.ensures ∙ pointwise_same _ _
