@@ -2,6 +2,7 @@
 -- against the whole-number formula."
 use Rattle.std.specs.Prelude.{◌≡◌, List, ℕ, ◌*◌, ◌^◌, ◌≤◌, ◌<◌, ℤ, pos, nat_abs, ◌-ℤ◌, ◌*ℤ◌, Float}
 use Rattle.std.proofs.Common.{sym, subst, arith}
+use Rattle.std.proofs.lemmas.Int.{to_z-of_z}
 use Rattle.std.specs.Float.{binary64}
 use Rattle.std.specs.Float.Ieee.{unlike, mul, add}
 use Rattle.std.specs.Float.Ieee.Exact.{HasValue}
@@ -10,7 +11,7 @@ use Rattle.format.specs.Epochs.{Triple, position_of, difference_of, moved_of, ye
 use Rattle.format.proofs.Laws.Wholes.{abs_mul}
 use Rattle.format.proofs.Laws.Shifts.{inside, Done, shot_done, product_size_lem, point_size_lem, motion_size_lem}
 use Rattle.epoch.specs.Doubles.{double_of, negative, IsDouble}
-use Rattle.epoch.proofs.DoubleLaws.{whole_of, has_value, product, hundredfold, sum_exact}
+use Rattle.epoch.proofs.DoubleLaws.{whole_of, has_value, product, hundred, hundredfold, sum_exact}
 use Rattle.epoch.proofs.DoubleBits.{is_double}
 
 -- the three steps to a coordinate: p 100, m d, which may be a zero of either sign, and their sum
@@ -46,6 +47,10 @@ module _ (p m d : ℤ) (hp : nat_abs p ≤ coordinate_limit) (hm : nat_abs m ≤
         sum = sum_exact p m d (omega (arith, hp)) (omega (arith, hm)) (omega (arith, hd)) (omega (arith, hp)) small;
       }
 
+  pub sum_of_steps : add binary64 (mul binary64 (double_of (pos 100)) (double_of p)) (mul binary64 (double_of m) (double_of d))
+      ≡ double_of (moved_of p m d)
+  sum_of_steps = steps_exact.sum
+
   coordinate_exact : Coordinate p m d (moved_of p m d) (yearly_of m)
   coordinate_exact =
       record {
@@ -54,6 +59,9 @@ module _ (p m d : ℤ) (hp : nat_abs p ≤ coordinate_limit) (hm : nat_abs m ≤
         point_double = is_double (moved_of p m d) (omega (arith, point_size_lem p m d hp hm hd));
         motion_double = is_double (yearly_of m) (omega (arith, motion_size_lem p m d hp hm hd));
       }
+
+-- what the code's steps need
+pub ruleset steps = (hundred, to_z-of_z, hundredfold, sum_of_steps)
 
 -- any URI, data, asked epoch and motion
 pub doubles : (u d : List ℕ) (asked : ℤ) (m : Triple) (s : Shot) → shift u d asked m ≡ shifted s → Doubles asked m s

@@ -1,15 +1,15 @@
 -- What C gets of an epoch shift.
-use Rattle.std.specs.Prelude.{◌≡◌, refl, pos}
+use Rattle.std.specs.Prelude.{◌≡◌, refl, pos, Result, Ok, Err}
 use Rattle.std.proofs.Common.{ap}
 use Rattle.format.specs.Records.{Refusal}
 use Rattle.format.specs.Epochs as Epochs
 use Rattle.format.specs.Epochs.{shifted, not_shifted, triple}
 use Rattle.record.specs.Items.{refusal_of}
+use Rattle.record.specs.declared.Refusal as Code
 use Rattle.epoch.specs.Answers as Answers
 use Rattle.epoch.specs.Answers.{triple_as, point_as, motion_as}
 use Rattle.epoch.proofs.Ways.{Known}
 use Rattle.epoch.specs.declared.Shifted.{Shifted}
-use Rattle.epoch.specs.declared.Shifted.TheVariants.{Moved, Refused}
 use Rattle.logbook_c.specs.declared.LogbookShifted.{LogbookShifted}
 
 abbrev zeros : Epochs.Triple
@@ -40,9 +40,17 @@ shifted_as (shifted s) =
 shifted_as (not_shifted x) = refused_shift x
 
 -- the same, of the library's answer
-abbrev pub shifted_from : Shifted → LogbookShifted
-shifted_from (Moved e p q v) = record { refusal = 0; place = 0; epoch = e; position = p; point = q; motion = v }
-shifted_from (Refused x) = refused_shift (refusal_of x)
+abbrev pub shifted_from : Result Shifted Code.Refusal → LogbookShifted
+shifted_from (Ok s) =
+    record {
+      refusal = 0;
+      place = 0;
+      epoch = s.epoch;
+      position = s.position;
+      point = s.point;
+      motion = s.motion;
+    }
+shifted_from (Err x) = refused_shift (refusal_of x)
 
 pub shift_told : (s : Epochs.Shifted) → Known s → shifted_from (Answers.shifted_as s) ≡ shifted_as s
 shift_told (shifted s) k = refl

@@ -594,24 +594,19 @@ fn refused_shift(x: Refusal) -> LogbookShifted
     }
 }
 
-fn shifted(r: Shifted) -> LogbookShifted
+fn shifted(r: Result<Shifted, Refusal>) -> LogbookShifted
     ensures { result ≡ shifted_from r }
 {
     match r {
-        Shifted::Moved {
-            epoch,
-            position,
-            point,
-            motion,
-        } => LogbookShifted {
+        Ok(s) => LogbookShifted {
             refusal: 0,
             place: 0,
-            epoch,
-            position,
-            point,
-            motion,
+            epoch: s.epoch,
+            position: s.position,
+            point: s.point,
+            motion: s.motion,
         },
-        Shifted::Refused(x) => refused_shift(x),
+        Err(x) => refused_shift(x),
     }
 }
 

@@ -2,7 +2,7 @@
 #![tactic(auto)]
 
 pub use appending::{Appended, Started, append, assign, start};
-pub use epoch::{Motion, Number, Point, Shifted, Triple, epoch_of, shift};
+pub use epoch::{Motion, Point, Shifted, Triple, epoch_of, shift};
 pub use erasing::{Erased, Wiped, erase, wipe};
 pub use fit::{Resolved, resolve};
 pub use listing::{Listed, fill};
