@@ -1,12 +1,12 @@
 -- What C gets of a call's answer: the refusal's number and place, or 0 and the result.
-use Rattle.std.specs.Prelude.{◌≡◌, refl, List, ℕ}
+use Rattle.std.specs.Prelude.{Result, Ok, Err, ◌≡◌, refl, List, ℕ}
 use Rattle.std.proofs.Common.{ap, ◌∙◌}
 use Rattle.format.specs.Records.{logbook}
 use Rattle.format.specs.Calls as Calls
 use Rattle.format.specs.Calls.{book_in, Call, call_on, Answer, appended, erased, wiped, denied, begun, not_begun, Called, called_of}
 use Rattle.appending.specs.Appendings.{appended_of, used_after}
 use Rattle.appending.specs.declared.Appended.{Appended}
-use Rattle.appending.specs.declared.Appended.TheVariants.{At, Refused}
+use Rattle.record.specs.declared.Refusal.{Refusal}
 use Rattle.logbook_c.specs.declared.LogbookStarted.{LogbookStarted}
 use Rattle.logbook_c.specs.declared.LogbookAppended.{LogbookAppended}
 use Rattle.logbook_c.specs.declared.LogbookErased.{LogbookErased}
@@ -51,11 +51,11 @@ Keeps f c l used l1 x =
     (x ≡ f (call_on logbook c (book_in l used)).answer) × (book_in l1 used ≡ (call_on logbook c (book_in l used)).book)
 
 -- ---- what the library's contract says, for C
-used_told : (used : ℕ) (r : Appended) → (appended_as used (appended_of r)).used ≡ used_after used r
-used_told used (At p n) = refl
-used_told used (Refused x) = refl
+used_told : (used : ℕ) (r : Result Appended Refusal) → (appended_as used (appended_of r)).used ≡ used_after used r
+used_told used (Ok a) = refl
+used_told used (Err x) = refl
 
-pub append_told : (used : ℕ) (r : Appended) (x : LogbookAppended) (l : List ℕ) (k : Called) → x ≡ appended_as used (appended_of r) → called_of (appended_of r) l (used_after used r) ≡ k
+pub append_told : (used : ℕ) (r : Result Appended Refusal) (x : LogbookAppended) (l : List ℕ) (k : Called) → x ≡ appended_as used (appended_of r) → called_of (appended_of r) l (used_after used r) ≡ k
     → (x ≡ appended_as used k.answer) × (book_in l x.used ≡ k.book)
 append_told used r x l k e q =
     (e ∙ ap (λ (c : Called). appended_as used c.answer) q, ap (λ (c : LogbookAppended). book_in l c.used) e ∙ ap (book_in l) (used_told used r) ∙ ap (λ (c : Called). c.book) q)

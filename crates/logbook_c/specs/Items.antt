@@ -1,5 +1,5 @@
 -- What C gets of a reading, an item, a URI's place and a listing.
-use Rattle.std.specs.Prelude.{◌≡◌, refl, Bool, true, false, List, ℕ, ◌+◌, ◌-◌, ◌≤◌, length, take}
+use Rattle.std.specs.Prelude.{Result, Ok, Err, ◌≡◌, refl, Bool, true, false, List, ℕ, ◌+◌, ◌-◌, ◌≤◌, length, take}
 use Rattle.std.proofs.Common.{ap, ◌∙◌, subst, arith, length-take}
 use Rattle.format.specs.Register as G
 use Rattle.format.specs.Records as M
@@ -15,6 +15,9 @@ use Rattle.reading.specs.declared.Entry.{Entry}
 use Rattle.reading.specs.declared.Reading.{Reading}
 use Rattle.reading.specs.declared.Item.{Item}
 use Rattle.reading.specs.declared.Item.TheVariants as Variant
+use Rattle.record.specs.declared.Refusal as Code
+use Rattle.logbook_c.specs.declared.Kind.{Kind}
+use Rattle.logbook_c.specs.declared.Kind.TheVariants as Kinds
 use Rattle.listing.specs.Filling.{Filled, fill_of, Fills}
 use Rattle.listing.specs.declared.Listed.{Listed}
 use Rattle.logbook_c.specs.declared.LogbookReading.{LogbookReading}
@@ -33,7 +36,18 @@ reading_from r =
       register = record { numbers = r.numbers; details = r.details; held = r.held };
     }
 
--- ---- an item: kinds 0 to 6
+-- ---- an item: kinds 0 to 6, of a move 7 and 8 too
+abbrev pub kind_number : Kind → ℕ
+kind_number Kinds.Padding = 0
+kind_number Kinds.Deleted = 1
+kind_number Kinds.Entry = 2
+kind_number Kinds.Header = 3
+kind_number Kinds.Assignment = 4
+kind_number Kinds.End = 5
+kind_number Kinds.Refused = 6
+kind_number Kinds.SizeHeld = 7
+kind_number Kinds.TypeHeld = 8
+
 abbrev pub row_as : Row → LogbookRow
 row_as r = record { number = r.number; place = r.place; length = r.length }
 
@@ -110,28 +124,28 @@ assignment_as e n m =
 abbrev pub refused_as : Refusal → LogbookItem
 refused_as x = bare_as 6 x.number x.place
 
-abbrev pub item_as : Item → LogbookItem
-item_as (Variant.Padding p) = bare_as 0 0 p.0
-item_as (Variant.Deleted p k s) = deleted_as p.0 k s
-item_as (Variant.Entry e) = live_as 2 e
-item_as (Variant.Header e) = live_as 3 e
-item_as (Variant.Assignment e n m) = assignment_as e n m
-item_as (Variant.End p) = bare_as 5 0 p.0
-item_as (Variant.Refused x) = refused_as (refusal_of x)
+abbrev pub item_as : Result Item Code.Refusal → LogbookItem
+item_as (Ok (Variant.Padding p)) = bare_as 0 0 p.0
+item_as (Ok (Variant.Deleted p k s)) = deleted_as p.0 k s
+item_as (Ok (Variant.Entry e)) = live_as 2 e
+item_as (Ok (Variant.Header e)) = live_as 3 e
+item_as (Ok (Variant.Assignment e n m)) = assignment_as e n m
+item_as (Ok (Variant.End p)) = bare_as 5 0 p.0
+item_as (Err x) = refused_as (refusal_of x)
 
 -- ---- it lies within n bytes
 pub record BoundedEntry (n : ℕ) (e : Entry) : Type 0 where
   pub whole : e.place.0 + e.live.size + e.live.body ≤ n
   pub type : e.live.kind ≤ e.live.body
 
-abbrev pub Bounded : ℕ → Item → Type 0
-Bounded n (Variant.Padding p) = Unit {0}
-Bounded n (Variant.Deleted p k s) = p.0 + k + s ≤ n
-Bounded n (Variant.Entry e) = BoundedEntry n e
-Bounded n (Variant.Header e) = BoundedEntry n e
-Bounded n (Variant.Assignment e k m) = BoundedEntry n e × (e.live.kind + m ≤ e.live.body)
-Bounded n (Variant.End p) = Unit {0}
-Bounded n (Variant.Refused x) = Unit {0}
+abbrev pub Bounded : ℕ → Result Item Code.Refusal → Type 0
+Bounded n (Ok (Variant.Padding p)) = Unit {0}
+Bounded n (Ok (Variant.Deleted p k s)) = p.0 + k + s ≤ n
+Bounded n (Ok (Variant.Entry e)) = BoundedEntry n e
+Bounded n (Ok (Variant.Header e)) = BoundedEntry n e
+Bounded n (Ok (Variant.Assignment e k m)) = BoundedEntry n e × (e.live.kind + m ≤ e.live.body)
+Bounded n (Ok (Variant.End p)) = Unit {0}
+Bounded n (Err x) = Unit {0}
 
 -- ---- what the definition shows, in a struct
 abbrev pub row_in : G.Row → LogbookRow
@@ -194,16 +208,16 @@ pub record Lists (f : Filled) (out₀ out : List ℕ) (x : LogbookListed) : Type
 
 -- ---- laws
 -- an item that lies in the log is what the definition shows
-pub item_shown : (l : List ℕ) (i : Item) → Lying l i → item_as i ≡ item_in (shown_of l i)
-item_shown l (Variant.Padding p) k = refl
-item_shown l (Variant.Deleted p a b) k = refl
-item_shown l (Variant.Entry e) k = rw (data_length l e.place.0 e.live k)
-item_shown l (Variant.Header e) k = rw (data_length l e.place.0 e.live k)
-item_shown l (Variant.Assignment e n m) k = rw (data_length l e.place.0 e.live k.0)
-item_shown l (Variant.End p) k = refl
-item_shown l (Variant.Refused x) k = refl
+pub item_shown : (l : List ℕ) (i : Result Item Code.Refusal) → Lying l i → item_as i ≡ item_in (shown_of l i)
+item_shown l (Ok (Variant.Padding p)) k = refl
+item_shown l (Ok (Variant.Deleted p a b)) k = refl
+item_shown l (Ok (Variant.Entry e)) k = rw (data_length l e.place.0 e.live k)
+item_shown l (Ok (Variant.Header e)) k = rw (data_length l e.place.0 e.live k)
+item_shown l (Ok (Variant.Assignment e n m)) k = rw (data_length l e.place.0 e.live k.0)
+item_shown l (Ok (Variant.End p)) k = refl
+item_shown l (Err x) k = refl
 
-pub step_told : (l : List ℕ) (used : ℕ) (r : LogbookReading) (x : LogbookStep) (i : Item) (s : Stepped) → x.item ≡ item_as i → Lying (take used l) i
+pub step_told : (l : List ℕ) (used : ℕ) (r : LogbookReading) (x : LogbookStep) (i : Result Item Code.Refusal) (s : Stepped) → x.item ≡ item_as i → Lying (take used l) i
     → stepped (shown_of (take used l) i) (reading_of (reading_from x.reading)) ≡ s → s ≡ step_on logbook (book_in l used) (reading_of (reading_from r)) → Steps l used r x
 step_told l used r x i s e k p q =
     record {
@@ -214,14 +228,14 @@ step_told l used r x i s e k p q =
 taken_short : (used : ℕ) (l : List ℕ) → length (take used l) ≤ length l
 taken_short used l = omega (arith, length-take used l)
 
-pub lying_bounded : (used : ℕ) (l : List ℕ) (i : Item) → Lying (take used l) i → Bounded (length l) i
-lying_bounded used l (Variant.Padding p) k = tt
-lying_bounded used l (Variant.Deleted p a b) k = omega (arith, k, taken_short used l)
-lying_bounded used l (Variant.Entry e) k = record { whole = omega (arith, k.whole, taken_short used l); type = k.type }
-lying_bounded used l (Variant.Header e) k = record { whole = omega (arith, k.whole, taken_short used l); type = k.type }
-lying_bounded used l (Variant.Assignment e n m) k = (record { whole = omega (arith, k.0.whole, taken_short used l); type = k.0.type }, k.1)
-lying_bounded used l (Variant.End p) k = tt
-lying_bounded used l (Variant.Refused x) k = tt
+pub lying_bounded : (used : ℕ) (l : List ℕ) (i : Result Item Code.Refusal) → Lying (take used l) i → Bounded (length l) i
+lying_bounded used l (Ok (Variant.Padding p)) k = tt
+lying_bounded used l (Ok (Variant.Deleted p a b)) k = omega (arith, k, taken_short used l)
+lying_bounded used l (Ok (Variant.Entry e)) k = record { whole = omega (arith, k.whole, taken_short used l); type = k.type }
+lying_bounded used l (Ok (Variant.Header e)) k = record { whole = omega (arith, k.whole, taken_short used l); type = k.type }
+lying_bounded used l (Ok (Variant.Assignment e n m)) k = (record { whole = omega (arith, k.0.whole, taken_short used l); type = k.0.type }, k.1)
+lying_bounded used l (Ok (Variant.End p)) k = tt
+lying_bounded used l (Err x) k = tt
 
 pub list_told : (r : LogbookReading) (q : Reading) (file out₀ out : List ℕ) (t : Listed) (x : LogbookListed) → q ≡ reading_from r
     → Fills out₀ (fill_of file (length out₀) (reading_of q)) out t.len (reading_of t.reading) t.over → x.length ≡ t.len → x.over ≡ flag_of t.over → reading_from x.reading ≡ t.reading

@@ -7,7 +7,7 @@ ghost use Rattle.format.specs.Calls as Calls;
 ghost use Rattle.format.specs.Epochs as Epochs;
 ghost use Rattle.format.specs.Moves.{fresh_slow};
 ghost use Rattle.register.specs.Tables.{row_of};
-ghost use Rattle.record.specs.Items.{refusal_of};
+ghost use Rattle.fit.specs.Resolving.{resolved_of};
 ghost use Rattle.appending.specs.Starts.{started_of};
 ghost use Rattle.appending.specs.Appendings.{appended_of};
 ghost use Rattle.erasing.specs.Erases.{erased_of};
@@ -17,22 +17,21 @@ ghost use Rattle.slow.specs.Moving.{slow_of};
 ghost use Rattle.listing.specs.Filling.{fill_of};
 ghost use Rattle.epoch.specs.Answers.{triple_of};
 ghost use Rattle.logbook_c.specs.Answers.{started_as, appended_as, erased_as, wiped_as, Starts, Appends, Keeps};
-ghost use Rattle.logbook_c.specs.Shifts.{refused_shift, shifted_from, shifted_as};
-ghost use Rattle.logbook_c.specs.Items.{reading_from, row_as, bare_as, deleted_as, live_as, assignment_as, refused_as, item_as};
+ghost use Rattle.logbook_c.specs.Shifts.{shifted_from, shifted_as};
+ghost use Rattle.logbook_c.specs.Items.{reading_from, row_as, kind_number, bare_as, deleted_as, live_as, assignment_as, item_as};
 ghost use Rattle.logbook_c.specs.Items.{BoundedEntry, Bounded, Steps, row_from, uri_as, flag_of, Lists};
-ghost use Rattle.logbook_c.specs.Moves.{slow_from, outcome_as, BoundedOutcome, MovesOn};
+ghost use Rattle.logbook_c.specs.Moves.{slow_from, SlowAs, outcome_as, BoundedOutcome, MovesOn};
 
-use appending::{Appended, Started};
+use appending::Appended;
 use epoch::{Motion, Point, Shifted, Triple};
-use erasing::{Erased, Wiped};
 use fit::Resolved;
 use reading::{Entry, Item, Reading};
-use record::Refusal;
+use record::{Refusal, Told};
 use register::{Details, EntryNumber, Numbers, Place, Register, Row};
 use slow::{Held, Outcome, Slow};
 
 #[repr(C)]
-#[derive(Clone, Copy)]
+#[derive(Clone, Copy, Default)]
 pub struct LogbookStarted {
     pub refusal: usize,
     pub place: usize,
@@ -40,7 +39,7 @@ pub struct LogbookStarted {
 }
 
 #[repr(C)]
-#[derive(Clone, Copy)]
+#[derive(Clone, Copy, Default)]
 pub struct LogbookAppended {
     pub refusal: usize,
     pub place: usize,
@@ -48,14 +47,14 @@ pub struct LogbookAppended {
 }
 
 #[repr(C)]
-#[derive(Clone, Copy)]
+#[derive(Clone, Copy, Default)]
 pub struct LogbookErased {
     pub refusal: usize,
     pub place: usize,
 }
 
 #[repr(C)]
-#[derive(Clone, Copy)]
+#[derive(Clone, Copy, Default)]
 pub struct LogbookWiped {
     pub refusal: usize,
     pub place: usize,
@@ -75,15 +74,29 @@ pub struct LogbookReading {
 }
 
 #[repr(C)]
-#[derive(Clone, Copy)]
+#[derive(Clone, Copy, Default)]
 pub struct LogbookRow {
     pub number: u64,
     pub place: u32,
     pub length: u32,
 }
 
-#[repr(C)]
+// The kinds of an item, by C's numbers.
 #[derive(Clone, Copy)]
+pub enum Kind {
+    Padding,
+    Deleted,
+    Entry,
+    Header,
+    Assignment,
+    End,
+    Refused,
+    SizeHeld,
+    TypeHeld,
+}
+
+#[repr(C)]
+#[derive(Clone, Copy, Default)]
 pub struct LogbookItem {
     pub kind: usize,
     pub refusal: usize,
@@ -124,7 +137,7 @@ pub struct LogbookMove {
 }
 
 #[repr(C)]
-#[derive(Clone, Copy)]
+#[derive(Clone, Copy, Default)]
 pub struct LogbookUri {
     pub refusal: usize,
     pub implied: usize,
@@ -141,7 +154,7 @@ pub struct LogbookListed {
 }
 
 #[repr(C)]
-#[derive(Clone, Copy)]
+#[derive(Clone, Copy, Default)]
 pub struct LogbookShifted {
     pub refusal: usize,
     pub place: usize,
@@ -151,21 +164,22 @@ pub struct LogbookShifted {
     pub motion: Motion,
 }
 
-fn started(r: Started) -> LogbookStarted
-    ensures { result ≡ started_as (started_of r) }
-{
-    match r {
-        Started::Used(used) => LogbookStarted {
-            refusal: 0,
-            place: 0,
-            used,
-        },
-        Started::Refused(x) => {
-            let t = record::tell(x);
-            LogbookStarted {
-                refusal: t.number,
-                place: t.place.0,
-                used: 0,
+impl From<Result<usize, Refusal>> for LogbookStarted {
+    ghost from_gives = { λ r x. x ≡ started_as (started_of r) };
+
+    fn from(r: Result<usize, Refusal>) -> LogbookStarted {
+        match r {
+            Ok(used) => LogbookStarted {
+                used,
+                ..LogbookStarted::default()
+            },
+            Err(x) => {
+                let t = Told::from(x);
+                LogbookStarted {
+                    refusal: t.number,
+                    place: t.place.0,
+                    ..LogbookStarted::default()
+                }
             }
         }
     }
@@ -175,20 +189,21 @@ fn started(r: Started) -> LogbookStarted
 pub extern "C" fn logbook_start(buf: &mut [u8], uuid: &[u8], free_part: &[u8]) -> LogbookStarted
     ensures { Starts uuid.now free_part.now buf.old buf.new result }
 {
-    started(appending::start(buf, uuid, free_part))
+    LogbookStarted::from(appending::start(buf, uuid, free_part))
 }
 
-fn appended(used: usize, r: Appended) -> LogbookAppended
+// A refused append has the used length that was handed in.
+fn appended(used: usize, r: Result<Appended, Refusal>) -> LogbookAppended
     ensures { result ≡ appended_as used (appended_of r) }
 {
     match r {
-        Appended::At { place, used: after } => LogbookAppended {
-            refusal: 0,
-            place: place.0,
-            used: after,
+        Ok(x) => LogbookAppended {
+            place: x.place.0,
+            used: x.used,
+            ..LogbookAppended::default()
         },
-        Appended::Refused(x) => {
-            let t = record::tell(x);
+        Err(x) => {
+            let t = Told::from(x);
             LogbookAppended {
                 refusal: t.number,
                 place: t.place.0,
@@ -222,19 +237,21 @@ pub extern "C" fn logbook_assign(
     appended(used, appending::assign(buf, used, number, uri))
 }
 
-fn erased(r: Erased) -> LogbookErased
-    ensures { result ≡ erased_as (erased_of r) }
-{
-    match r {
-        Erased::At(place) => LogbookErased {
-            refusal: 0,
-            place: place.0,
-        },
-        Erased::Refused(x) => {
-            let t = record::tell(x);
-            LogbookErased {
-                refusal: t.number,
-                place: t.place.0,
+impl From<Result<Place, Refusal>> for LogbookErased {
+    ghost from_gives = { λ r x. x ≡ erased_as (erased_of r) };
+
+    fn from(r: Result<Place, Refusal>) -> LogbookErased {
+        match r {
+            Ok(place) => LogbookErased {
+                place: place.0,
+                ..LogbookErased::default()
+            },
+            Err(x) => {
+                let t = Told::from(x);
+                LogbookErased {
+                    refusal: t.number,
+                    place: t.place.0,
+                }
             }
         }
     }
@@ -244,24 +261,25 @@ fn erased(r: Erased) -> LogbookErased
 pub extern "C" fn logbook_erase(buf: &mut [u8], used: usize, place: usize) -> LogbookErased
     ensures { Keeps erased_as (Calls.erase place) buf.old used buf.new result }
 {
-    erased(erasing::erase(buf, used, Place(place)))
+    LogbookErased::from(erasing::erase(buf, used, Place(place)))
 }
 
-fn wiped(r: Wiped) -> LogbookWiped
-    ensures { result ≡ wiped_as (wiped_of r) }
-{
-    match r {
-        Wiped::Stores(stores) => LogbookWiped {
-            refusal: 0,
-            place: 0,
-            stores,
-        },
-        Wiped::Refused(x) => {
-            let t = record::tell(x);
-            LogbookWiped {
-                refusal: t.number,
-                place: t.place.0,
-                stores: 0,
+impl From<Result<usize, Refusal>> for LogbookWiped {
+    ghost from_gives = { λ r x. x ≡ wiped_as (wiped_of r) };
+
+    fn from(r: Result<usize, Refusal>) -> LogbookWiped {
+        match r {
+            Ok(stores) => LogbookWiped {
+                stores,
+                ..LogbookWiped::default()
+            },
+            Err(x) => {
+                let t = Told::from(x);
+                LogbookWiped {
+                    refusal: t.number,
+                    place: t.place.0,
+                    ..LogbookWiped::default()
+                }
             }
         }
     }
@@ -276,37 +294,36 @@ pub extern "C" fn logbook_wipe(
 ) -> LogbookWiped
     ensures { Keeps wiped_as (Calls.wipe place limit) buf.old used buf.new result }
 {
-    wiped(erasing::wipe(buf, used, Place(place), limit))
+    LogbookWiped::from(erasing::wipe(buf, used, Place(place), limit))
 }
 
-fn reading_from(r: LogbookReading) -> Reading
-    ensures { result ≡ reading_from r }
-{
-    let numbers = r.numbers;
-    let details = r.details;
-    let register = Register {
-        numbers,
-        details,
-        held: r.held,
-    };
-    Reading {
-        position: Place(r.position),
-        count: EntryNumber(r.count),
-        register,
+impl From<LogbookReading> for Reading {
+    ghost from_gives = { λ x r. r ≡ reading_from x };
+
+    fn from(x: LogbookReading) -> Reading {
+        Reading {
+            position: Place(x.position),
+            count: EntryNumber(x.count),
+            register: Register {
+                numbers: x.numbers,
+                details: x.details,
+                held: x.held,
+            },
+        }
     }
 }
 
-fn reading_as(r: Reading) -> LogbookReading
-    ensures { reading_from result ≡ r }
-{
-    let numbers = r.register.numbers;
-    let details = r.register.details;
-    LogbookReading {
-        position: r.position.0,
-        count: r.count.0,
-        held: r.register.held,
-        numbers,
-        details,
+impl From<Reading> for LogbookReading {
+    ghost from_gives = { λ r x. reading_from x ≡ r };
+
+    fn from(r: Reading) -> LogbookReading {
+        LogbookReading {
+            position: r.position.0,
+            count: r.count.0,
+            held: r.register.held,
+            numbers: r.register.numbers,
+            details: r.register.details,
+        }
     }
 }
 
@@ -314,41 +331,41 @@ fn reading_as(r: Reading) -> LogbookReading
 pub extern "C" fn logbook_fresh() -> LogbookReading
     ensures { reading_of (reading_from result) ≡ Format.fresh }
 {
-    reading_as(Reading::fresh())
+    LogbookReading::from(Reading::fresh())
 }
 
-fn row_as(row: Row) -> LogbookRow
-    ensures { result ≡ row_as row }
-{
-    LogbookRow {
-        number: row.number,
-        place: row.place,
-        length: row.length,
+impl From<Row> for LogbookRow {
+    ghost from_gives = { λ r x. x ≡ row_as r };
+
+    fn from(row: Row) -> LogbookRow {
+        LogbookRow {
+            number: row.number,
+            place: row.place,
+            length: row.length,
+        }
+    }
+}
+
+impl From<LogbookRow> for Row {
+    ghost from_gives = { λ x r. r ≡ row_from x };
+
+    fn from(x: LogbookRow) -> Row {
+        Row {
+            number: x.number,
+            place: x.place,
+            length: x.length,
+        }
     }
 }
 
 // An item that is no record.
-fn bare_item(kind: usize, refusal: usize, place: usize) -> LogbookItem
-    ensures { result ≡ bare_as kind refusal place }
+fn bare_item(kind: Kind, place: usize) -> LogbookItem
+    ensures { result ≡ bare_as (kind_number kind) 0 place }
 {
-    let row = LogbookRow {
-        number: 0,
-        place: 0,
-        length: 0,
-    };
     LogbookItem {
-        kind,
-        refusal,
+        kind: kind as usize,
         place,
-        number: 0,
-        type_place: 0,
-        data_place: 0,
-        data_length: 0,
-        row,
-        declared_place: 0,
-        declared_number: 0,
-        assigned: 0,
-        assigned_place: 0,
+        ..LogbookItem::default()
     }
 }
 
@@ -356,33 +373,29 @@ fn deleted_item(buf: &[u8], place: usize, size: usize, body: usize) -> LogbookIt
     requires { place + size + body ≤ length buf.now }
     ensures { result ≡ deleted_as place size body }
 {
-    let mut x = bare_item(1, 0, place);
-    x.type_place = place + size;
-    x.data_place = place + size;
-    x.data_length = body;
-    x
+    LogbookItem {
+        type_place: place + size,
+        data_place: place + size,
+        data_length: body,
+        ..bare_item(Kind::Deleted, place)
+    }
 }
 
-fn live_item(buf: &[u8], kind: usize, e: Entry) -> LogbookItem
+fn live_item(buf: &[u8], kind: Kind, e: Entry) -> LogbookItem
     requires { BoundedEntry (length buf.now) e }
-    ensures { result ≡ live_as kind e }
+    ensures { result ≡ live_as (kind_number kind) e }
 {
     let live = e.live;
     let place = e.place.0;
-    let row = row_as(live.row);
     LogbookItem {
-        kind,
-        refusal: 0,
-        place,
         number: e.number.0,
         type_place: place + live.size,
         data_place: place + live.size + live.kind,
         data_length: live.body - live.kind,
-        row,
+        row: LogbookRow::from(live.row),
         declared_place: live.declared.place.0,
         declared_number: live.declared.number.0,
-        assigned: 0,
-        assigned_place: 0,
+        ..bare_item(kind, place)
     }
 }
 
@@ -390,33 +403,33 @@ fn assignment_item(buf: &[u8], e: Entry, number: u64, gap: usize) -> LogbookItem
     requires { BoundedEntry (length buf.now) e × (e.live.kind + gap ≤ e.live.body) }
     ensures { result ≡ assignment_as e number gap }
 {
-    let mut x = live_item(buf, 4, e);
-    let at = x.data_place;
-    x.assigned = number;
-    x.assigned_place = at + gap;
-    x
+    let live = live_item(buf, Kind::Assignment, e);
+    LogbookItem {
+        assigned: number,
+        assigned_place: live.data_place + gap,
+        ..live
+    }
 }
 
-fn refused_item(x: Refusal) -> LogbookItem
-    ensures { result ≡ refused_as (refusal_of x) }
-{
-    let t = record::tell(x);
-    bare_item(6, t.number, t.place.0)
-}
-
-// An item that lies in a buffer.
-fn item_as(buf: &[u8], item: Item) -> LogbookItem
+// An item that lies in a buffer, or its refusal.
+fn item_as(buf: &[u8], item: Result<Item, Refusal>) -> LogbookItem
     requires { Bounded (length buf.now) item }
     ensures { result ≡ item_as item }
 {
     match item {
-        Item::Padding(place) => bare_item(0, 0, place.0),
-        Item::Deleted { place, size, body } => deleted_item(buf, place.0, size, body),
-        Item::Entry(e) => live_item(buf, 2, e),
-        Item::Header(e) => live_item(buf, 3, e),
-        Item::Assignment { entry, number, gap } => assignment_item(buf, entry, number, gap),
-        Item::End(place) => bare_item(5, 0, place.0),
-        Item::Refused(x) => refused_item(x),
+        Ok(Item::Padding(place)) => bare_item(Kind::Padding, place.0),
+        Ok(Item::Deleted { place, size, body }) => deleted_item(buf, place.0, size, body),
+        Ok(Item::Entry(e)) => live_item(buf, Kind::Entry, e),
+        Ok(Item::Header(e)) => live_item(buf, Kind::Header, e),
+        Ok(Item::Assignment { entry, number, gap }) => assignment_item(buf, entry, number, gap),
+        Ok(Item::End(place)) => bare_item(Kind::End, place.0),
+        Err(x) => {
+            let t = Told::from(x);
+            LogbookItem {
+                refusal: t.number,
+                ..bare_item(Kind::Refused, t.place.0)
+            }
+        }
     }
 }
 
@@ -424,54 +437,42 @@ fn item_as(buf: &[u8], item: Item) -> LogbookItem
 pub extern "C" fn logbook_step(buf: &[u8], used: usize, reading: LogbookReading) -> LogbookStep
     ensures { Steps buf.now used reading result }
 {
-    let mut numbers = reading.numbers;
-    let mut details = reading.details;
-    let position = Place(reading.position);
-    let count = EntryNumber(reading.count);
-    let t = reading::advance(
-        buf,
-        used,
-        position,
-        count,
-        &mut numbers,
-        &mut details,
-        reading.held,
-    );
-    let shown = t.item;
+    let mut reading = Reading::from(reading);
+    let item = reading.advance(buf, used);
     LogbookStep {
-        item: item_as(buf, shown),
-        reading: LogbookReading {
-            position: t.position.0,
-            count: t.count.0,
-            held: t.held,
-            numbers,
-            details,
-        },
+        item: item_as(buf, item),
+        reading: LogbookReading::from(reading),
     }
 }
 
-fn slow_from(s: LogbookSlow) -> Slow
-    ensures { result ≡ slow_from s }
-{
-    let reading = reading_from(s.reading);
-    let held = Held {
-        type_place: Place(s.type_place),
-        end: Place(s.end),
-        number: s.number,
-        data_place: Place(s.data_place),
-    };
-    Slow { reading, held }
+impl From<LogbookSlow> for Slow {
+    ghost from_gives = { λ x s. s ≡ slow_from x };
+
+    fn from(x: LogbookSlow) -> Slow {
+        Slow {
+            reading: Reading::from(x.reading),
+            held: Held::of(
+                Place(x.type_place),
+                Place(x.end),
+                x.number,
+                Place(x.data_place),
+            ),
+        }
+    }
 }
 
-fn slow_as(s: Slow) -> LogbookSlow
-    ensures { slow_from result ≡ s }
-{
-    LogbookSlow {
-        reading: reading_as(s.reading),
-        type_place: s.held.type_place.0,
-        end: s.held.end.0,
-        number: s.held.number,
-        data_place: s.held.data_place.0,
+impl From<Slow> for LogbookSlow {
+    ghost from_gives = { SlowAs };
+
+    fn from(s: Slow) -> LogbookSlow {
+        let (type_place, end, number, data_place) = s.held.numbers();
+        LogbookSlow {
+            reading: LogbookReading::from(s.reading),
+            type_place: type_place.0,
+            end: end.0,
+            number,
+            data_place: data_place.0,
+        }
     }
 }
 
@@ -479,22 +480,19 @@ fn slow_as(s: Slow) -> LogbookSlow
 pub extern "C" fn logbook_slow_fresh() -> LogbookSlow
     ensures { slow_of (slow_from result) ≡ fresh_slow }
 {
-    slow_as(Slow::fresh())
+    LogbookSlow::from(Slow::fresh())
 }
 
-// What a move at a position shows: an item that lies in a buffer, or that a size or a type is held.
-fn outcome_as(buf: &[u8], position: usize, outcome: Outcome) -> LogbookItem
+// What a move at a position shows: an item that lies in a buffer, that a size or a type is held, or a refusal.
+fn outcome_as(buf: &[u8], position: usize, outcome: Result<Outcome, Refusal>) -> LogbookItem
     requires { BoundedOutcome (length buf.now) outcome }
     ensures { result ≡ outcome_as position outcome }
 {
     match outcome {
-        Outcome::Item(item) => item_as(buf, item),
-        Outcome::Holds(held) => {
-            if (held.number == 0) & (held.data_place.0 == 0) {
-                return bare_item(7, 0, position);
-            }
-            bare_item(8, 0, position)
-        }
+        Ok(Outcome::Item(item)) => item_as(buf, Ok(item)),
+        Ok(Outcome::Holds(Held::Typed { .. })) => bare_item(Kind::TypeHeld, position),
+        Ok(Outcome::Holds(_)) => bare_item(Kind::SizeHeld, position),
+        Err(x) => item_as(buf, Err(x)),
     }
 }
 
@@ -503,12 +501,35 @@ pub extern "C" fn logbook_move(buf: &[u8], used: usize, slow: LogbookSlow) -> Lo
     ensures { MovesOn buf.now used slow result }
 {
     let position = slow.reading.position;
-    let s = slow_from(slow);
-    let m = s.move_on(buf, used);
-    let outcome = m.outcome;
+    let mut slow = Slow::from(slow);
+    let outcome = slow.advance(buf, used);
     LogbookMove {
         item: outcome_as(buf, position, outcome),
-        slow: slow_as(m.slow),
+        slow: LogbookSlow::from(slow),
+    }
+}
+
+impl From<Result<Resolved, Refusal>> for LogbookUri {
+    ghost from_gives = { λ r x. x ≡ uri_as (resolved_of r) };
+
+    fn from(r: Result<Resolved, Refusal>) -> LogbookUri {
+        match r {
+            Ok(Resolved::Log { place, length }) => LogbookUri {
+                place: place.0,
+                length,
+                ..LogbookUri::default()
+            },
+            Ok(Resolved::Implied { place, length }) => LogbookUri {
+                implied: 1,
+                place,
+                length,
+                ..LogbookUri::default()
+            },
+            Err(x) => LogbookUri {
+                refusal: Told::from(x).number,
+                ..LogbookUri::default()
+            },
+        }
     }
 }
 
@@ -516,39 +537,7 @@ pub extern "C" fn logbook_move(buf: &[u8], used: usize, slow: LogbookSlow) -> Lo
 pub extern "C" fn logbook_uri(len: usize, used: usize, row: LogbookRow) -> LogbookUri
     ensures { result ≡ uri_as (Calls.resolve len used (row_of (row_from row))) }
 {
-    let row = register::row_with(row.number, row.place, row.length);
-    match fit::resolve(len, used, row) {
-        Resolved::Log { place, length } => LogbookUri {
-            refusal: 0,
-            implied: 0,
-            place: place.0,
-            length,
-        },
-        Resolved::Implied { place, length } => LogbookUri {
-            refusal: 0,
-            implied: 1,
-            place,
-            length,
-        },
-        Resolved::Refused(x) => {
-            let t = record::tell(x);
-            LogbookUri {
-                refusal: t.number,
-                implied: 0,
-                place: 0,
-                length: 0,
-            }
-        }
-    }
-}
-
-fn flag(b: bool) -> usize
-    ensures { result ≡ flag_of b }
-{
-    if b {
-        return 1;
-    }
-    0
+    LogbookUri::from(fit::resolve(len, used, Row::from(row)))
 }
 
 #[unsafe(no_mangle)]
@@ -559,54 +548,36 @@ pub extern "C" fn logbook_list(
 ) -> LogbookListed
     ensures { Lists (fill_of file.now (length out.old) (reading_of (reading_from reading))) out.old out.new result }
 {
-    let t = listing::fill(reading_from(reading), file, out);
-    let next = t.reading;
-    let reading = reading_as(next);
+    let t = listing::fill(Reading::from(reading), file, out);
     LogbookListed {
         length: t.len,
-        over: flag(t.over),
-        reading,
+        over: usize::from(t.over),
+        reading: LogbookReading::from(t.reading),
     }
 }
 
-fn refused_shift(x: Refusal) -> LogbookShifted
-    ensures { result ≡ refused_shift (refusal_of x) }
-{
-    let t = record::tell(x);
-    let position = Triple { x: 0, y: 0, z: 0 };
-    let point = Point {
-        x: 0.0,
-        y: 0.0,
-        z: 0.0,
-    };
-    let motion = Motion {
-        x: 0.0,
-        y: 0.0,
-        z: 0.0,
-    };
-    LogbookShifted {
-        refusal: t.number,
-        place: t.place.0,
-        epoch: 0,
-        position,
-        point,
-        motion,
-    }
-}
+impl From<Result<Shifted, Refusal>> for LogbookShifted {
+    ghost from_gives = { λ r x. x ≡ shifted_from r };
 
-fn shifted(r: Result<Shifted, Refusal>) -> LogbookShifted
-    ensures { result ≡ shifted_from r }
-{
-    match r {
-        Ok(s) => LogbookShifted {
-            refusal: 0,
-            place: 0,
-            epoch: s.epoch,
-            position: s.position,
-            point: s.point,
-            motion: s.motion,
-        },
-        Err(x) => refused_shift(x),
+    fn from(r: Result<Shifted, Refusal>) -> LogbookShifted {
+        match r {
+            Ok(s) => LogbookShifted {
+                refusal: 0,
+                place: 0,
+                epoch: s.epoch,
+                position: s.position,
+                point: s.point,
+                motion: s.motion,
+            },
+            Err(x) => {
+                let t = Told::from(x);
+                LogbookShifted {
+                    refusal: t.number,
+                    place: t.place.0,
+                    ..LogbookShifted::default()
+                }
+            }
+        }
     }
 }
 
@@ -619,5 +590,5 @@ pub extern "C" fn logbook_shift(
 ) -> LogbookShifted
     ensures { result ≡ shifted_as (Epochs.shift uri.now bytes.now asked (triple_of motion)) }
 {
-    shifted(epoch::shift(uri, bytes, asked, motion))
+    LogbookShifted::from(epoch::shift(uri, bytes, asked, motion))
 }
