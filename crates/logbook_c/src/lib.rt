@@ -301,12 +301,14 @@ impl From<LogbookReading> for Reading {
     ghost from_gives = { λ x r. r ≡ reading_from x };
 
     fn from(x: LogbookReading) -> Reading {
+        let numbers = x.numbers;
+        let details = x.details;
         Reading {
             position: Place(x.position),
             count: EntryNumber(x.count),
             register: Register {
-                numbers: x.numbers,
-                details: x.details,
+                numbers,
+                details,
                 held: x.held,
             },
         }
@@ -317,12 +319,14 @@ impl From<Reading> for LogbookReading {
     ghost from_gives = { λ r x. reading_from x ≡ r };
 
     fn from(r: Reading) -> LogbookReading {
+        let numbers = r.register.numbers;
+        let details = r.register.details;
         LogbookReading {
             position: r.position.0,
             count: r.count.0,
             held: r.register.held,
-            numbers: r.register.numbers,
-            details: r.register.details,
+            numbers,
+            details,
         }
     }
 }
