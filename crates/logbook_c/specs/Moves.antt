@@ -1,12 +1,16 @@
 -- What C gets of a slow reading and a move.
 use Rattle.std.specs.Prelude.{Result, Ok, Err, ◌≡◌, refl, List, ℕ, length, take}
-use Rattle.std.proofs.Common.{ap, ◌∙◌}
+use Rattle.std.proofs.Common.{ap, ap₂, sym, subst, ◌∙◌}
 use Rattle.format.specs.Records.{logbook}
 use Rattle.format.specs.Calls.{book_in}
 use Rattle.format.specs.Moves as F
 use Rattle.format.specs.Moves.{nothing, sized, typed, held_of, tells, holds, move_on}
-use Rattle.slow.specs.Moving.{slow_of, outcome_of, moved_of, LyingOutcome}
-use Rattle.slow.specs.Holding.{held_back, numbers_of}
+use Rattle.slow.specs.Moving as Library
+use Rattle.slow.specs.Moving.{slow_of, outcome_of, LyingOutcome}
+use Rattle.slow.specs.Holding.{held_in, held_back, held_in_lem}
+use Rattle.slow.specs.Numbers.{numbers_of, numbers_back, Numbered, numbered_lem, moved_numbered}
+use Rattle.reading.specs.Readings.{reading_of}
+use Rattle.reading.specs.declared.Reading.{Reading}
 use Rattle.slow.specs.declared.Slow.{Slow}
 use Rattle.slow.specs.declared.Held.{Held}
 use Rattle.slow.specs.declared.Held.TheVariants.{Nothing, Sized, Typed}
@@ -74,3 +78,16 @@ pub outcome_bounded : (used : ℕ) (l : List ℕ) (a : Result Outcome Refusal) �
 outcome_bounded used l (Ok (Variant.Item i)) k = lying_bounded used l (Ok i) k
 outcome_bounded used l (Ok (Variant.Holds h)) k = tt
 outcome_bounded used l (Err x) k = tt
+
+-- what is handed back of a reading that holds what four numbers can hold is that reading again
+pub slow_back : (s : Slow) (x : LogbookSlow) → SlowAs s x → Numbered (held_in s.held) → slow_of (slow_from x) ≡ slow_of s
+slow_back s x k n = ap₂ (λ (r : Reading) (h : Held). F.slow (reading_of r) (held_in h)) k.reading (numbers_back s.held _ k.numbers n)
+
+pub move_told : (l : List ℕ) (used : ℕ) (s : LogbookSlow) (x : LogbookMove) (m : Move) → Library.MovesOn l used (slow_of (slow_from s)) m
+    → x.item ≡ outcome_as s.reading.position m.outcome → SlowAs m.slow x.slow → MovesOn l used s x
+move_told l used s x m c d e =
+    let n = moved_numbered l used (slow_from s) m c (subst Numbered (sym (held_in_lem (held_of s.type_place s.end s.number s.data_place))) (numbered_lem s.type_place s.end s.number s.data_place)) in
+    record {
+      item = d ∙ outcome_shown (take used l) s.reading.position m.outcome c.1 ∙ ap (λ (y : F.Moved). item_told s.reading.position y.answer) c.0;
+      slow = slow_back m.slow x.slow e n ∙ ap (λ (y : F.Moved). y.slow) c.0;
+    }

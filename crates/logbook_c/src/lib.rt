@@ -505,11 +505,10 @@ pub extern "C" fn logbook_move(buf: &[u8], used: usize, slow: LogbookSlow) -> Lo
     ensures { MovesOn buf.now used slow result }
 {
     let position = slow.reading.position;
-    let mut slow = Slow::from(slow);
-    let outcome = slow.advance(buf, used);
+    let m = Slow::from(slow).move_on(buf, used);
     LogbookMove {
-        item: outcome_as(buf, position, outcome),
-        slow: LogbookSlow::from(slow),
+        item: outcome_as(buf, position, m.outcome),
+        slow: LogbookSlow::from(m.slow),
     }
 }
 

@@ -14,6 +14,6 @@ pub returns : goal.returns
 returns c = let u = c.args.uri.now in
     let d = c.args.bytes.now in
     let m = triple_of c.args.motion in
-    c.shifted.ensures ∙ ap shifted_from c.shift.ensures
+    c.from.ensures ∙ ap shifted_from c.shift.ensures
     ∙ ap (λ (z : ℤ). shifted_from (Answers.shifted_as (shift u d z m))) (to_z-of_z w64 c.args.asked c.ranges.asked)
     ∙ shift_told (shift u d c.args.asked m) (shift_known u d c.args.asked m)

@@ -1,6 +1,0 @@
--- The library's answer, in a struct.
-use Rattle.logbook_c.specs.Answers.{append_told}
-use Rattle.logbook_c.proofs.logbook_assign.Goals as goal
-
-pub returns : goal.returns
-returns c = append_told _ c.assign.result _ _ _ c.appended.ensures c.assign.ensures

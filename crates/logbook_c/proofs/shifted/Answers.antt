@@ -1,8 +1,0 @@
--- By the answer.
-use Rattle.logbook_c.proofs.shifted.Goals as goal
-
-pub returns-in-Ok : goal.returns-in-Ok
-returns-in-Ok c = rw c.in-Ok.is
-
-pub returns-in-Err : goal.returns-in-Err
-returns-in-Err c = rw c.in-Err.is c.refused_shift.ensures
