@@ -20,21 +20,10 @@ use Rattle.logbook_c.specs.declared.Kind.{Kind}
 use Rattle.logbook_c.specs.declared.Kind.TheVariants as Kinds
 use Rattle.listing.specs.Filling.{Filled, fill_of, Fills}
 use Rattle.listing.specs.declared.Listed.{Listed}
-use Rattle.logbook_c.specs.declared.LogbookReading.{LogbookReading}
-use Rattle.logbook_c.specs.declared.LogbookRow.{LogbookRow}
 use Rattle.logbook_c.specs.declared.LogbookItem.{LogbookItem}
 use Rattle.logbook_c.specs.declared.LogbookStep.{LogbookStep}
 use Rattle.logbook_c.specs.declared.LogbookUri.{LogbookUri}
 use Rattle.logbook_c.specs.declared.LogbookListed.{LogbookListed}
-
--- ---- a reading that C hands in
-abbrev pub reading_from : LogbookReading → Reading
-reading_from r =
-    record {
-      position = record { 0 = r.position };
-      count = record { 0 = r.count };
-      register = record { numbers = r.numbers; details = r.details; held = r.held };
-    }
 
 -- ---- an item: kinds 0 to 6, of a move 7 and 8 too
 abbrev pub kind_number : Kind → ℕ
@@ -47,9 +36,6 @@ kind_number Kinds.End = 5
 kind_number Kinds.Refused = 6
 kind_number Kinds.SizeHeld = 7
 kind_number Kinds.TypeHeld = 8
-
-abbrev pub row_as : Row → LogbookRow
-row_as r = record { number = r.number; place = r.place; length = r.length }
 
 abbrev pub bare_as : ℕ → ℕ → ℕ → LogbookItem
 bare_as kind x p =
@@ -96,7 +82,7 @@ live_as kind e =
       type_place = e.place.0 + e.live.size;
       data_place = e.place.0 + e.live.size + e.live.kind;
       data_length = e.live.body - e.live.kind;
-      row = row_as e.live.row;
+      row = e.live.row;
       declared_place = e.live.declared.place.0;
       declared_number = e.live.declared.number.0;
       assigned = 0;
@@ -114,7 +100,7 @@ assignment_as e n m =
       type_place = e.place.0 + e.live.size;
       data_place = e.place.0 + e.live.size + e.live.kind;
       data_length = e.live.body - e.live.kind;
-      row = row_as e.live.row;
+      row = e.live.row;
       declared_place = e.live.declared.place.0;
       declared_number = e.live.declared.number.0;
       assigned = n;
@@ -148,8 +134,8 @@ Bounded n (Ok (Variant.End p)) = Unit {0}
 Bounded n (Err x) = Unit {0}
 
 -- ---- what the definition shows, in a struct
-abbrev pub row_in : G.Row → LogbookRow
-row_in r = record { number = r.number; place = r.place; length = r.length }
+abbrev pub row_in : G.Row → Row
+row_in r = row_with r.number r.place r.length
 
 -- kinds 2, 3 and 4; an assignment has the number that it assigns and its URI's place
 abbrev pub live_in : M.Entry → Report → ℕ → ℕ → ℕ → LogbookItem
@@ -182,14 +168,11 @@ item_in (end p) = bare_as 5 0 p
 item_in (refused x) = refused_as x
 
 -- a step is the definition's, its item and the reading it hands back
-pub record Steps (l : List ℕ) (used : ℕ) (r : LogbookReading) (x : LogbookStep) : Type 0 where
-  pub item : x.item ≡ item_in (step_on logbook (book_in l used) (reading_of (reading_from r))).answer
-  pub reading : reading_of (reading_from x.reading) ≡ (step_on logbook (book_in l used) (reading_of (reading_from r))).reading
+pub record Steps (l : List ℕ) (used : ℕ) (r : Reading) (x : LogbookStep) : Type 0 where
+  pub item : x.item ≡ item_in (step_on logbook (book_in l used) (reading_of r)).answer
+  pub reading : reading_of x.reading ≡ (step_on logbook (book_in l used) (reading_of r)).reading
 
 -- ---- where a URI stands
-abbrev pub row_from : LogbookRow → Row
-row_from r = row_with r.number r.place r.length
-
 abbrev pub uri_as : Resolved → LogbookUri
 uri_as (in_log p n) = record { refusal = 0; implied = 0; place = p; length = n }
 uri_as (in_names p n) = record { refusal = 0; implied = 1; place = p; length = n }
@@ -203,7 +186,7 @@ flag_of false = 0
 pub record Lists (f : Filled) (out₀ out : List ℕ) (x : LogbookListed) : Type 0 where
   pub written : x.length ≡ length f.text
   pub last : x.over ≡ flag_of f.over
-  pub reading : reading_of (reading_from x.reading) ≡ f.reading
+  pub reading : reading_of x.reading ≡ f.reading
   pub bytes : out ≡ stored out₀ 0 f.text
 
 -- ---- laws
@@ -217,8 +200,8 @@ item_shown l (Ok (Variant.Assignment e n m)) k = rw (data_length l e.place.0 e.l
 item_shown l (Ok (Variant.End p)) k = refl
 item_shown l (Err x) k = refl
 
-pub step_told : (l : List ℕ) (used : ℕ) (r : LogbookReading) (x : LogbookStep) (i : Result Item Code.Refusal) (s : Stepped) → x.item ≡ item_as i → Lying (take used l) i
-    → stepped (shown_of (take used l) i) (reading_of (reading_from x.reading)) ≡ s → s ≡ step_on logbook (book_in l used) (reading_of (reading_from r)) → Steps l used r x
+pub step_told : (l : List ℕ) (used : ℕ) (r : Reading) (x : LogbookStep) (i : Result Item Code.Refusal) (s : Stepped) → x.item ≡ item_as i → Lying (take used l) i
+    → stepped (shown_of (take used l) i) (reading_of x.reading) ≡ s → s ≡ step_on logbook (book_in l used) (reading_of r) → Steps l used r x
 step_told l used r x i s e k p q =
     record {
       item = e ∙ item_shown (take used l) i k ∙ ap (λ (t : Stepped). item_in t.answer) (p ∙ q);
@@ -237,9 +220,6 @@ lying_bounded used l (Ok (Variant.Assignment e n m)) k = (record { whole = omega
 lying_bounded used l (Ok (Variant.End p)) k = tt
 lying_bounded used l (Err x) k = tt
 
-pub list_told : (r : LogbookReading) (q : Reading) (file out₀ out : List ℕ) (t : Listed) (x : LogbookListed) → q ≡ reading_from r
-    → Fills out₀ (fill_of file (length out₀) (reading_of q)) out t.len (reading_of t.reading) t.over → x.length ≡ t.len → x.over ≡ flag_of t.over → reading_from x.reading ≡ t.reading
-    → Lists (fill_of file (length out₀) (reading_of (reading_from r))) out₀ out x
-list_told r q file out₀ out t x e f a b d =
-    subst (λ (y : Reading). Lists (fill_of file (length out₀) (reading_of y)) out₀ out x) e
-    (record { written = a ∙ f.0; last = b ∙ ap flag_of f.2; reading = ap reading_of d ∙ f.1; bytes = f.3 })
+pub list_told : (r : Reading) (file out₀ out : List ℕ) (t : Listed) (x : LogbookListed) → Fills out₀ (fill_of file (length out₀) (reading_of r)) out t.len (reading_of t.reading) t.over
+    → x.length ≡ t.len → x.over ≡ flag_of t.over → x.reading ≡ t.reading → Lists (fill_of file (length out₀) (reading_of r)) out₀ out x
+list_told r file out₀ out t x f a b d = record { written = a ∙ f.0; last = b ∙ ap flag_of f.2; reading = ap reading_of d ∙ f.1; bytes = f.3 }

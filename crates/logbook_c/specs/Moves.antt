@@ -21,19 +21,19 @@ use Rattle.slow.specs.declared.Move.{Move}
 use Rattle.logbook_c.specs.declared.LogbookItem.{LogbookItem}
 use Rattle.logbook_c.specs.declared.LogbookSlow.{LogbookSlow}
 use Rattle.logbook_c.specs.declared.LogbookMove.{LogbookMove}
-use Rattle.logbook_c.specs.Items.{reading_from, bare_as, item_as, item_in, Bounded, item_shown, lying_bounded}
+use Rattle.logbook_c.specs.Items.{bare_as, item_as, item_in, Bounded, item_shown, lying_bounded}
 
 -- ---- a slow reading that C hands in
 abbrev pub slow_from : LogbookSlow → Slow
 slow_from s =
     record {
-      reading = reading_from s.reading;
+      reading = s.reading;
       held = held_back (held_of s.type_place s.end s.number s.data_place);
     }
 
 -- and what is handed back of one: its reading and the four numbers of what it holds
 pub record SlowAs (s : Slow) (x : LogbookSlow) : Type 0 where
-  pub reading : reading_from x.reading ≡ s.reading
+  pub reading : x.reading ≡ s.reading
   pub numbers : (record { 0 = x.type_place }, record { 0 = x.end }, x.number, record { 0 = x.data_place }) ≡ numbers_of s.held
 
 -- ---- what a move at p shows: an item, or kind 7 for a size and kind 8 for a type that is now held
@@ -62,7 +62,7 @@ BoundedOutcome n (Err x) = Unit {0}
 
 -- a move is the definition's, what it shows and the reading it hands back
 pub record MovesOn (l : List ℕ) (used : ℕ) (s : LogbookSlow) (x : LogbookMove) : Type 0 where
-  pub item : x.item ≡ item_told s.reading.position (move_on logbook (book_in l used) (slow_of (slow_from s))).answer
+  pub item : x.item ≡ item_told s.reading.position.0 (move_on logbook (book_in l used) (slow_of (slow_from s))).answer
   pub slow : slow_of (slow_from x.slow) ≡ (move_on logbook (book_in l used) (slow_of (slow_from s))).slow
 
 -- ---- laws
@@ -84,10 +84,10 @@ pub slow_back : (s : Slow) (x : LogbookSlow) → SlowAs s x → Numbered (held_i
 slow_back s x k n = ap₂ (λ (r : Reading) (h : Held). F.slow (reading_of r) (held_in h)) k.reading (numbers_back s.held _ k.numbers n)
 
 pub move_told : (l : List ℕ) (used : ℕ) (s : LogbookSlow) (x : LogbookMove) (m : Move) → Library.MovesOn l used (slow_of (slow_from s)) m
-    → x.item ≡ outcome_as s.reading.position m.outcome → SlowAs m.slow x.slow → MovesOn l used s x
+    → x.item ≡ outcome_as s.reading.position.0 m.outcome → SlowAs m.slow x.slow → MovesOn l used s x
 move_told l used s x m c d e =
     let n = moved_numbered l used (slow_from s) m c (subst Numbered (sym (held_in_lem (held_of s.type_place s.end s.number s.data_place))) (numbered_lem s.type_place s.end s.number s.data_place)) in
     record {
-      item = d ∙ outcome_shown (take used l) s.reading.position m.outcome c.1 ∙ ap (λ (y : F.Moved). item_told s.reading.position y.answer) c.0;
+      item = d ∙ outcome_shown (take used l) s.reading.position.0 m.outcome c.1 ∙ ap (λ (y : F.Moved). item_told s.reading.position.0 y.answer) c.0;
       slow = slow_back m.slow x.slow e n ∙ ap (λ (y : F.Moved). y.slow) c.0;
     }

@@ -18,8 +18,8 @@ ghost use Rattle.listing.specs.Filling.{fill_of};
 ghost use Rattle.epoch.specs.Answers.{triple_of};
 ghost use Rattle.logbook_c.specs.Answers.{started_as, appended_as, erased_as, wiped_as, Starts, Appends, Keeps};
 ghost use Rattle.logbook_c.specs.Shifts.{shifted_from, shifted_as};
-ghost use Rattle.logbook_c.specs.Items.{reading_from, row_as, kind_number, bare_as, deleted_as, live_as, assignment_as, item_as};
-ghost use Rattle.logbook_c.specs.Items.{BoundedEntry, Bounded, Steps, row_from, uri_as, flag_of, Lists};
+ghost use Rattle.logbook_c.specs.Items.{kind_number, bare_as, deleted_as, live_as, assignment_as, item_as};
+ghost use Rattle.logbook_c.specs.Items.{BoundedEntry, Bounded, Steps, uri_as, flag_of, Lists};
 ghost use Rattle.logbook_c.specs.Moves.{slow_from, SlowAs, outcome_as, BoundedOutcome, MovesOn};
 
 use appending::Appended;
@@ -27,7 +27,7 @@ use epoch::{Motion, Point, Shifted, Triple};
 use fit::Resolved;
 use reading::{Entry, Item, Reading};
 use record::{Refusal, Told};
-use register::{Details, EntryNumber, Numbers, Place, Register, Row};
+use register::{Place, Row};
 use slow::{Held, Outcome, Slow};
 
 #[repr(C)]
@@ -61,26 +61,6 @@ pub struct LogbookWiped {
     pub stores: usize,
 }
 
-// C has four columns in the place of the details: places and lengths of the URIs, places and numbers of the records that
-// assigned the rows.
-#[repr(C)]
-#[derive(Clone, Copy)]
-pub struct LogbookReading {
-    pub position: usize,
-    pub count: usize,
-    pub held: usize,
-    pub numbers: Numbers,
-    pub details: Details,
-}
-
-#[repr(C)]
-#[derive(Clone, Copy, Default)]
-pub struct LogbookRow {
-    pub number: u64,
-    pub place: u32,
-    pub length: u32,
-}
-
 // The kinds of an item, by C's numbers.
 #[derive(Clone, Copy)]
 pub enum Kind {
@@ -105,7 +85,7 @@ pub struct LogbookItem {
     pub type_place: usize,
     pub data_place: usize,
     pub data_length: usize,
-    pub row: LogbookRow,
+    pub row: Row,
     pub declared_place: usize,
     pub declared_number: usize,
     pub assigned: u64,
@@ -116,13 +96,13 @@ pub struct LogbookItem {
 #[derive(Clone, Copy)]
 pub struct LogbookStep {
     pub item: LogbookItem,
-    pub reading: LogbookReading,
+    pub reading: Reading,
 }
 
 #[repr(C)]
 #[derive(Clone, Copy)]
 pub struct LogbookSlow {
-    pub reading: LogbookReading,
+    pub reading: Reading,
     pub type_place: usize,
     pub end: usize,
     pub number: u64,
@@ -150,7 +130,7 @@ pub struct LogbookUri {
 pub struct LogbookListed {
     pub length: usize,
     pub over: usize,
-    pub reading: LogbookReading,
+    pub reading: Reading,
 }
 
 #[repr(C)]
@@ -297,69 +277,11 @@ pub extern "C" fn logbook_wipe(
     LogbookWiped::from(erasing::wipe(buf, used, Place(place), limit))
 }
 
-impl From<LogbookReading> for Reading {
-    ghost from_gives = { λ x r. r ≡ reading_from x };
-
-    fn from(x: LogbookReading) -> Reading {
-        let numbers = x.numbers;
-        let details = x.details;
-        Reading {
-            position: Place(x.position),
-            count: EntryNumber(x.count),
-            register: Register {
-                numbers,
-                details,
-                held: x.held,
-            },
-        }
-    }
-}
-
-impl From<Reading> for LogbookReading {
-    ghost from_gives = { λ r x. reading_from x ≡ r };
-
-    fn from(r: Reading) -> LogbookReading {
-        let numbers = r.register.numbers;
-        let details = r.register.details;
-        LogbookReading {
-            position: r.position.0,
-            count: r.count.0,
-            held: r.register.held,
-            numbers,
-            details,
-        }
-    }
-}
-
 #[unsafe(no_mangle)]
-pub extern "C" fn logbook_fresh() -> LogbookReading
-    ensures { reading_of (reading_from result) ≡ Format.fresh }
+pub extern "C" fn logbook_fresh() -> Reading
+    ensures { reading_of result ≡ Format.fresh }
 {
-    LogbookReading::from(Reading::fresh())
-}
-
-impl From<Row> for LogbookRow {
-    ghost from_gives = { λ r x. x ≡ row_as r };
-
-    fn from(row: Row) -> LogbookRow {
-        LogbookRow {
-            number: row.number,
-            place: row.place,
-            length: row.length,
-        }
-    }
-}
-
-impl From<LogbookRow> for Row {
-    ghost from_gives = { λ x r. r ≡ row_from x };
-
-    fn from(x: LogbookRow) -> Row {
-        Row {
-            number: x.number,
-            place: x.place,
-            length: x.length,
-        }
-    }
+    Reading::fresh()
 }
 
 // An item that is no record.
@@ -396,7 +318,7 @@ fn live_item(buf: &[u8], kind: Kind, e: Entry) -> LogbookItem
         type_place: place + live.size,
         data_place: place + live.size + live.kind,
         data_length: live.body - live.kind,
-        row: LogbookRow::from(live.row),
+        row: live.row,
         declared_place: live.declared.place.0,
         declared_number: live.declared.number.0,
         ..bare_item(kind, place)
@@ -438,14 +360,13 @@ fn item_as(buf: &[u8], item: Result<Item, Refusal>) -> LogbookItem
 }
 
 #[unsafe(no_mangle)]
-pub extern "C" fn logbook_step(buf: &[u8], used: usize, reading: LogbookReading) -> LogbookStep
+pub extern "C" fn logbook_step(buf: &[u8], used: usize, mut reading: Reading) -> LogbookStep
     ensures { Steps buf.now used reading result }
 {
-    let mut reading = Reading::from(reading);
     let item = reading.advance(buf, used);
     LogbookStep {
         item: item_as(buf, item),
-        reading: LogbookReading::from(reading),
+        reading,
     }
 }
 
@@ -454,7 +375,7 @@ impl From<LogbookSlow> for Slow {
 
     fn from(x: LogbookSlow) -> Slow {
         Slow {
-            reading: Reading::from(x.reading),
+            reading: x.reading,
             held: Held::of(
                 Place(x.type_place),
                 Place(x.end),
@@ -471,7 +392,7 @@ impl From<Slow> for LogbookSlow {
     fn from(s: Slow) -> LogbookSlow {
         let (type_place, end, number, data_place) = s.held.numbers();
         LogbookSlow {
-            reading: LogbookReading::from(s.reading),
+            reading: s.reading,
             type_place: type_place.0,
             end: end.0,
             number,
@@ -504,11 +425,12 @@ fn outcome_as(buf: &[u8], position: usize, outcome: Result<Outcome, Refusal>) ->
 pub extern "C" fn logbook_move(buf: &[u8], used: usize, slow: LogbookSlow) -> LogbookMove
     ensures { MovesOn buf.now used slow result }
 {
-    let position = slow.reading.position;
-    let m = Slow::from(slow).move_on(buf, used);
+    let position = slow.reading.position.0;
+    let mut slow = Slow::from(slow);
+    let outcome = slow.advance(buf, used);
     LogbookMove {
-        item: outcome_as(buf, position, m.outcome),
-        slow: LogbookSlow::from(m.slow),
+        item: outcome_as(buf, position, outcome),
+        slow: LogbookSlow::from(slow),
     }
 }
 
@@ -537,25 +459,25 @@ impl From<Result<Resolved, Refusal>> for LogbookUri {
 }
 
 #[unsafe(no_mangle)]
-pub extern "C" fn logbook_uri(len: usize, used: usize, row: LogbookRow) -> LogbookUri
-    ensures { result ≡ uri_as (Calls.resolve len used (row_of (row_from row))) }
+pub extern "C" fn logbook_uri(len: usize, used: usize, row: Row) -> LogbookUri
+    ensures { result ≡ uri_as (Calls.resolve len used (row_of row)) }
 {
-    LogbookUri::from(fit::resolve(len, used, Row::from(row)))
+    LogbookUri::from(fit::resolve(len, used, row))
 }
 
 #[unsafe(no_mangle)]
 pub extern "C" fn logbook_list(
-    reading: LogbookReading,
+    reading: Reading,
     file: &[u8],
     out: &mut [u8],
 ) -> LogbookListed
-    ensures { Lists (fill_of file.now (length out.old) (reading_of (reading_from reading))) out.old out.new result }
+    ensures { Lists (fill_of file.now (length out.old) (reading_of reading)) out.old out.new result }
 {
-    let t = listing::fill(Reading::from(reading), file, out);
+    let t = listing::fill(reading, file, out);
     LogbookListed {
         length: t.len,
         over: usize::from(t.over),
-        reading: LogbookReading::from(t.reading),
+        reading: t.reading,
     }
 }
 

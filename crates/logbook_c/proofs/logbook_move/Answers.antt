@@ -1,4 +1,4 @@
--- The library's move, with the reading in a struct.
+-- The library's move, what it shows and what it holds in structs.
 use Rattle.std.proofs.Common.{subst}
 use Rattle.slow.specs.Moving as Library
 use Rattle.slow.specs.Moving.{slow_of}
@@ -8,6 +8,7 @@ use Rattle.logbook_c.proofs.logbook_move.Goals as goal
 
 pub returns : goal.returns
 returns c = let a = c.args in
-    let m = c.move_on-m in
-    move_told a.buf.now a.used a.slow _ m.result
-    (subst (λ (s : Slow). Library.MovesOn a.buf.now a.used (slow_of s) m.result) c.from.ensures m.ensures) c.outcome_as.ensures c.from-2.ensures
+    let v = c.advance-outcome in
+    move_told a.buf.now a.used a.slow _ (record { outcome = v.result; slow = v.new.self })
+    (subst (λ (s : Slow). Library.MovesOn a.buf.now a.used (slow_of s) (record { outcome = v.result; slow = v.new.self })) c.from-slow.ensures v.ensures)
+    c.outcome_as.ensures c.from.ensures
