@@ -1,14 +1,14 @@
 -- What C gets of a slow reading and a move.
 use Rattle.std.specs.Prelude.{Result, Ok, Err, ◌≡◌, refl, List, ℕ, length, take}
-use Rattle.std.proofs.Common.{ap, ap₂, sym, subst, ◌∙◌}
+use Rattle.std.proofs.Common.{ap, ap₂, ◌∙◌}
 use Rattle.format.specs.Records.{logbook}
 use Rattle.format.specs.Calls.{book_in}
 use Rattle.format.specs.Moves as F
 use Rattle.format.specs.Moves.{nothing, sized, typed, held_of, tells, holds, move_on}
 use Rattle.slow.specs.Moving as Library
 use Rattle.slow.specs.Moving.{slow_of, outcome_of, LyingOutcome}
-use Rattle.slow.specs.Holding.{held_in, held_back, held_in_lem}
-use Rattle.slow.specs.Numbers.{numbers_of, numbers_back, Numbered, numbered_lem, moved_numbered}
+use Rattle.slow.specs.Holding.{held_in, held_back}
+use Rattle.slow.specs.Numbers.{numbers_of, numbers_back, Numbered, made_numbered, moved_numbered}
 use Rattle.reading.specs.Readings.{reading_of}
 use Rattle.reading.specs.declared.Reading.{Reading}
 use Rattle.slow.specs.declared.Slow.{Slow}
@@ -86,7 +86,7 @@ slow_back s x k n = ap₂ (λ (r : Reading) (h : Held). F.slow (reading_of r) (h
 pub move_told : (l : List ℕ) (used : ℕ) (s : LogbookSlow) (x : LogbookMove) (m : Move) → Library.MovesOn l used (slow_of (slow_from s)) m
     → x.item ≡ outcome_as s.reading.position.0 m.outcome → SlowAs m.slow x.slow → MovesOn l used s x
 move_told l used s x m c d e =
-    let n = moved_numbered l used (slow_from s) m c (subst Numbered (sym (held_in_lem (held_of s.type_place s.end s.number s.data_place))) (numbered_lem s.type_place s.end s.number s.data_place)) in
+    let n = moved_numbered l used (slow_from s) m c (made_numbered s.type_place s.end s.number s.data_place) in
     record {
       item = d ∙ outcome_shown (take used l) s.reading.position.0 m.outcome c.1 ∙ ap (λ (y : F.Moved). item_told s.reading.position.0 y.answer) c.0;
       slow = slow_back m.slow x.slow e n ∙ ap (λ (y : F.Moved). y.slow) c.0;
