@@ -1,8 +1,9 @@
 -- Laws of a listing that is handed over part by part: the parts joined, and where it stands before, between and behind them.
-use Rattle.std.specs.Prelude.{◌≡◌, refl, Bool, true, false, cond, ℕ, ◌+◌, ◌-◌, ◌≤◌, ◌<◌, take, drop}
-use Rattle.std.proofs.Common.{sym, ap, ◌∙◌, arith, le-leb, length-append, length-drop, take-add, drop-drop}
+use Rattle.std.specs.Prelude.{◌≡◌, refl, Bool, true, false, cond, ℕ, ◌+◌, ◌≤◌, ◌<◌, take, drop}
+use Rattle.std.proofs.Common.{sym, ap, ◌∙◌, arith, le-leb, length-append, length-drop, length-take, length-take-le, take-take, take-add, drop-drop}
 use mathlib.Core.List.{List, [], ◌∷◌, ◌++◌, flatten, append_assoc, append-nil}
 use Rattle.std.proofs.lemmas.Bool.{lt-leb}
+use Rattle.std.proofs.lemmas.List.{take-append-le}
 use Rattle.std.proofs.Math.ListN.{length}
 use Rattle.std.proofs.Math.Seq.{take-length, take-append_seam, drop-append_seam}
 use Rattle.format.specs.Bytes.{stored}
@@ -13,7 +14,7 @@ use Rattle.format.specs.Listing.{listing}
 use Rattle.format.proofs.Laws.Listing.{Passes}
 use Rattle.listing.specs.Filling.{fill_of, Fills}
 use Rattle.listing.proofs.FillingLaws.{filled_inside, fill_long, fill_listing, fill_moves}
-use Rattle.list.specs.Handing.{NextPart, Parts, Shows, Lists, room, HandsOver, rest_on, Stands}
+use Rattle.list.specs.Handing.{NextPart, Parts, Shows, room, HandsOver, rest_on, Stands}
 
 -- a test can't have both answers
 true_false : {P : Type 0} {b : Bool} → b ≡ true → b ≡ false → P
@@ -50,11 +51,11 @@ fill_passes file r o =
     (λ h. let q = fill_moves file room r h (omega arith) o in (q.0, omega (arith, q.1)))
 
 -- ---- where a listing stands
-pub stands_start : (file : List ℕ) → Stands file 0 false fresh
+pub stands_start : (file : List ℕ) → Stands file 0 fresh
 unfolding rest_on listing
-stands_start file = record { going = refl; inside = omega arith; rest = refl; counted = omega arith }
+stands_start file = record { inside = omega arith; rest = refl; counted = omega arith }
 
-module _ {file : List ℕ} {n : ℕ} {failed : Bool} {r : Reading} (s : Stands file n failed r) where
+module _ {file : List ℕ} {n : ℕ} {r : Reading} (s : Stands file n r) where
   abbrev text : List ℕ
   text = (fill_of file room r).text
 
@@ -70,39 +71,43 @@ module _ {file : List ℕ} {n : ℕ} {failed : Bool} {r : Reading} (s : Stands f
     text_fits : length text ≤ room
     text_fits = omega (arith, size, filled_inside d₀ text d filled.3 kept)
 
-    filled_text : take (len - 0) d ≡ text
+    filled_text : take len d ≡ text
     unfolding stored
-    filled_text = let z : len - 0 ≡ length text = omega (arith, filled.0) in rw (z, filled.3) (take-append_seam text _)
+    filled_text = rw (filled.0, filled.3) (take-append_seam text _)
 
     pub filled_inside_buffer : len ≤ length d
     filled_inside_buffer = omega (arith, size, kept, filled.0, text_fits)
 
-    pub filled_next : NextPart file n failed (take (len - 0) d)
-    filled_next =
-        rw filled_text
-        record { going = s.going; there = rw stands_split (take-append_seam text _); counted = omega (arith, s.counted, text_fits) }
+    -- what stands in its front is next, whole or in part
+    pub filled_next : (k : ℕ) → k ≤ len → NextPart file n (take k d)
+    filled_next k h =
+        let l : length (take k d) ≡ k = length-take-le k d (omega (arith, filled_inside_buffer)) in
+        let m : k ≤ length text = omega (arith, filled.0) in
+        let e : take k text ≡ take k d = rw (← filled_text) (take-take k len d h) in
+        record { there = rw (l, stands_split) (take-append-le k text _ m ∙ e); counted = omega (arith, l, s.counted, text_fits) }
 
-    pub filled_handed : {m : ℕ} → m ≡ n + length (take (len - 0) d) → HandsOver n (fill_of file room r) m q over
+    pub filled_handed : {m : ℕ} → m ≡ n + length (take len d) → HandsOver n (fill_of file room r) m q over
     filled_handed e = record { count = rw filled_text at e; fits = text_fits; reading = filled.1; over = filled.2 }
+
+  -- the next part was handed over, and the write failed
+  pub handed_failed : {p : List ℕ} {m : ℕ} → m ≡ n + length p → NextPart file n p → Shows file m true
+  handed_failed e h =
+      record { begun = omega (arith, e, s.inside, simp (length-take, length-drop) at (ap length h.there)); whole = true_false refl }
 
   -- it was handed over
   module _ {m : ℕ} {q : Reading} {over : Bool} (h : HandsOver n (fill_of file room r) m q over) where
     handed_inside : m ≤ length (listing file)
     handed_inside = omega (arith, h.count, s.inside, length-drop n (listing file), simp length-append at (ap length stands_split))
 
-    pub handed_failed : {f : Bool} → f ≡ true → Shows file m f
-    handed_failed e = record { begun = handed_inside; whole = true_false e }
-
-    pub handed_last : over ≡ true → (f : Bool) → Shows file m f
-    handed_last o f =
+    pub handed_last : over ≡ true → Shows file m false
+    handed_last o =
         let e : drop n (listing file) ≡ text ++ [] = stands_split ∙ rw (sym h.over ∙ o) in
         let l : length (drop n (listing file)) ≡ length text + 0 = ap length e ∙ length-append text [] in
         record { begun = handed_inside; whole = λ _. omega (arith, h.count, s.inside, length-drop n (listing file)) }
 
-    pub handed_on : over ≡ false → {f : Bool} → f ≡ false → m + room < 18446744073709551616 → Stands file m f q
-    handed_on o e c =
+    pub handed_on : over ≡ false → m + room < 18446744073709551616 → Stands file m q
+    handed_on o c =
         record {
-          going = e;
           inside = handed_inside;
           rest = rw (h.count, h.reading, ← (drop-drop (length text) n (listing file)), stands_split)
               (drop-append_seam text _ ∙ rw (sym h.over ∙ o));
@@ -111,13 +116,3 @@ module _ {file : List ℕ} {n : ℕ} {failed : Bool} {r : Reading} (s : Stands f
 
     pub handed_passes : over ≡ false → Passes r.position q file_limit
     handed_passes o = rw h.reading (fill_passes file r (sym h.over ∙ o))
-
--- ---- what was read of a file, at the front of the buffer d
-pub lists_unread : {unread : Bool} {file : List ℕ} {n : ℕ} {failed : Bool} → unread ≡ true → n ≡ 0 → Lists unread file n failed
-lists_unread e z = record { shown = true_false e; silent = λ _. z }
-
-pub lists_read : {unread : Bool} (d : List ℕ) (len k : ℕ) {n : ℕ} {failed : Bool} → unread ≡ false → k ≡ len
-    → Shows (take (k - 0) d) n failed → Lists unread (take len d) n failed
-lists_read d len k e q s =
-    let z : k - 0 ≡ len = omega arith in
-    record { shown = λ _. rw z at s; silent = λ t. true_false t e }

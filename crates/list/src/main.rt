@@ -4,13 +4,10 @@
 mod input;
 mod output;
 
-ghost use Rattle.std.specs.Prelude.{take};
-ghost use Rattle.reading.specs.Readings.{reading_of};
-ghost use Rattle.listing.specs.Filling.{fill_of};
-ghost use Rattle.list.specs.Handing.{Shows, Lists, room, HandsOver, Stands};
+ghost use Rattle.std.specs.Prelude.{is_err};
+ghost use Rattle.list.specs.Handing.{Shows, Lists, count_of};
 
-use input::Taken;
-use output::Handed;
+use output::{Failed, Handed};
 use reading::Reading;
 use std::env::{Env, FillError};
 use std::io::Read;
@@ -23,67 +20,29 @@ const FILE_ROOM: usize = format::FILE_LIMIT + 1;
 // The bytes of lines that are handed over at once.
 const LINES_ROOM: usize = 262144;
 
-// Where a listing stands: the bytes handed over, the reading behind them, and whether they end it.
-#[derive(Clone, Copy)]
-struct Turn {
-    handed: Handed,
-    reading: Reading,
-    over: bool,
-}
-
-// Hands over one buffer of lines.
-fn show_some<R: Print + Eprint>(
-    rt: &R,
-    handed: Handed,
-    reading: Reading,
-    file: &[u8],
-    out: &mut [u8; LINES_ROOM],
-) -> Turn
-    requires { Stands file.now handed.len handed.failed (reading_of reading) }
-    ensures { HandsOver handed.len (fill_of file.now room (reading_of reading)) result.handed.len (reading_of result.reading) result.over }
-{
-    let t = listing::fill(reading, file, out);
-    let len = t.len;
-    let next = t.reading;
-    let lines = &out[..];
-    let more = handed.hand_over(rt, file, &lines[0..len]);
-    Turn {
-        handed: more,
-        reading: next,
-        over: t.over,
-    }
-}
-
 // Hands over the listing of a file, up to a failed write; each buffer of lines passes over a byte, or is the last.
-fn show<R: Print + Eprint>(rt: &R, file: &[u8]) -> Handed
-    ensures { Shows file.now result.len result.failed }
+fn show<R: Print + Eprint>(rt: &R, file: &[u8]) -> Result<Handed, Failed>
+    ensures { Shows file.now (count_of result) (is_err result) }
 {
     let mut out = [0u8; LINES_ROOM];
     let mut handed = Handed::nothing();
     let mut reading = Reading::fresh();
-    let mut turns: usize = FILE_ROOM;
-    while 0 < turns {
-        let t = show_some(rt, handed, reading, file, &mut out);
-        let more = t.handed;
-        if more.has_failed() {
-            return more;
+    for _ in 0..FILE_ROOM {
+        let lines = listing::fill(reading, file, &mut out);
+        handed = handed.hand_over(rt, file, &out[..lines.len])?;
+        if lines.over {
+            break;
         }
-        if t.over {
-            return more;
-        }
-        let next = t.reading;
-        handed = more;
-        reading = next;
-        turns -= 1;
+        reading = lines.reading;
     }
-    handed
+    Ok(handed)
 }
 
-// What came of listing a file: what was read of it, and the bytes handed over.
-#[derive(Clone, Copy)]
+// What came of listing a file: how many bytes of it were read, none where a read failed, and what of the listing was handed over.
+#[derive(Drop)]
 struct Outcome {
-    taken: Taken,
-    handed: Handed,
+    read: Option<usize>,
+    handed: Result<Handed, Failed>,
 }
 
 // Reads a file into the buffer and lists it, or says why it can't be read.
@@ -93,19 +52,21 @@ fn list<R: Print + Eprint, F: Read>(
     from: &mut F,
     file: &mut [u8; FILE_ROOM],
 ) -> Outcome
-    ensures { Lists result.taken.failed (take result.taken.len file.new) result.handed.len result.handed.failed }
+    ensures { Lists result.read file.new (count_of result.handed) (is_err result.handed) }
 {
-    let taken = input::take_all(rt, name, from, file);
-    if taken.has_failed() {
-        return Outcome {
-            taken,
-            handed: Handed::nothing(),
-        };
+    match input::take_all(from, file) {
+        Ok(len) => Outcome {
+            read: Some(len),
+            handed: show(rt, &file[..len]),
+        },
+        Err(why) => {
+            output::fail(rt, name, &why);
+            Outcome {
+                read: None,
+                handed: Ok(Handed::nothing()),
+            }
+        }
     }
-    let len = taken.len();
-    let bytes = &file[..];
-    let handed = show(rt, &bytes[0..len]);
-    Outcome { taken, handed }
 }
 
 // The bytes of a path, as it is handed in.
@@ -114,8 +75,7 @@ const PATH_ROOM: usize = 4096;
 // Lists the file that a path names, or says why it can't be opened.
 fn list_named<R: Files + Print + Eprint>(rt: &R, path: &[u8], file: &mut [u8; FILE_ROOM]) {
     let Ok(name) = str::from_utf8(path) else {
-        output::fail(rt, "path", &io::Error::from(io::ErrorKind::InvalidFilename));
-        return;
+        return output::fail(rt, "path", &io::ErrorKind::InvalidFilename.into());
     };
     match fs::open(rt, name) {
         Ok(mut from) => {
@@ -133,10 +93,6 @@ fn main(rt: HostRuntime) {
         Err(FillError::NotPresent) => {
             list(&rt, "standard input", &mut rt.stdin(), &mut file);
         }
-        Err(_) => output::fail(
-            &rt,
-            "path",
-            &io::Error::from(io::ErrorKind::InvalidFilename),
-        ),
+        Err(_) => output::fail(&rt, "path", &io::ErrorKind::InvalidFilename.into()),
     }
 }

@@ -1,45 +1,46 @@
 // Standard output: the one place that hands bytes to it, and counts them.
-ghost use Rattle.std.specs.Prelude.{◌≡◌, false, ◌+◌, length};
-ghost use Rattle.list.specs.Handing.{NextPart};
+ghost use Rattle.std.specs.Prelude.{◌≡◌, ◌+◌, length};
+ghost use Rattle.list.specs.Handing.{NextPart, count_of};
 
 use std::io;
 use std::io::Write;
 
-// How many bytes of a listing were handed over, and whether the last write failed. The fields are private, so that none is made up.
-#[derive(Clone, Copy)]
+// How many bytes of a listing were handed over, where no write failed. The field is private, so that none is made up.
+#[derive(Drop)]
 pub struct Handed {
     len: usize,
-    failed: bool,
+}
+
+// How many, where the last write failed: nothing is handed over behind it.
+#[derive(Drop)]
+pub struct Failed {
+    len: usize,
 }
 
 impl Handed {
     // Before the first part.
     pub fn nothing() -> Handed
-        ensures { (result.len ≡ 0) × (result.failed ≡ false) }
+        ensures { result.len ≡ 0 }
     {
-        Handed {
-            len: 0,
-            failed: false,
-        }
-    }
-
-    pub fn has_failed(self) -> bool
-        ensures { result ≡ self.failed }
-    {
-        self.failed
+        Handed { len: 0 }
     }
 
     // Hands over the next part of the file's listing, and says where its write fails. The file stands here for the contract.
-    pub fn hand_over<R: Print + Eprint>(self, rt: &R, file: &[u8], part: &[u8]) -> Handed
-        requires { NextPart file.now self.len self.failed part.now }
-        ensures { result.len ≡ self.len + length part.now }
+    pub fn hand_over<R: Print + Eprint>(
+        self,
+        rt: &R,
+        file: &[u8],
+        part: &[u8],
+    ) -> Result<Handed, Failed>
+        requires { NextPart file.now self.len part.now }
+        ensures { count_of result ≡ self.len + length part.now }
     {
         let len = self.len + part.len();
         match io::writer(rt).write_all(part) {
-            Ok(()) => Handed { len, failed: false },
+            Ok(()) => Ok(Handed { len }),
             Err(why) => {
                 fail(rt, "standard output", &why);
-                Handed { len, failed: true }
+                Err(Failed { len })
             }
         }
     }

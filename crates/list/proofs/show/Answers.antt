@@ -1,37 +1,54 @@
-use mathlib.Core.Path.{sym, ap, ◌∙◌}
+use mathlib.Core.Path.{ap}
 use native.Mathlib.Omega.{arith}
+use Rattle.std.proofs.Common.{ℕ, length-take}
+use Rattle.std.proofs.lemmas.Result.{err_from_is_err_and}
 use Rattle.format.specs.Reading.{Reading}
-use Rattle.list.specs.HandingLaws.{stands_start, handed_failed, handed_last, handed_on, handed_passes}
+use Rattle.list.specs.HandingLaws.{stands_start, filled_inside_buffer, filled_next, filled_handed, handed_failed, handed_last, handed_on, handed_passes}
 use Rattle.list.proofs.show.Goals as goal
 
-pub loop-turns-init : goal.loop-turns-init
-loop-turns-init g c = let n = c.nothing-handed.ensures in
+pub loop-init : goal.loop-init
+loop-init g c = let n = c.nothing-handed.ensures in
     let r = c.fresh-reading.ensures in (
-      rw (n.0, n.1, r) (stands_start c.args.file.now),
-      omega (arith, n.0),
+      rw (n, r) (stands_start c.args.file.now),
+      omega (arith, n),
       omega arith,
       omega (arith, ap (λ (x : Reading). x.position) r),
     )
 
-pub show_some-t-requires : goal.show_some-t-requires
-show_some-t-requires g c = c.loop-turns.invariant.0
+pub slice_bounds-out-end : goal.slice_bounds-out-end
+slice_bounds-out-end g c = let f = c.fill-lines in
+    omega (arith, filled_inside_buffer c.loop.invariant.0 c.loop.out c.loop-test.array_long f.auto.out f.ensures)
 
-pub returns-then-has_failed : goal.returns-then-has_failed
-returns-then-has_failed g c = handed_failed c.loop-turns.invariant.0 c.show_some-t.ensures (sym c.has_failed.ensures ∙ c.if-has_failed.true)
+pub slice_bounds-hand_over-end : goal.slice_bounds-hand_over-end
+slice_bounds-hand_over-end g c = let f = c.fill-lines in
+    omega (arith, length-take {A = ℕ}, filled_inside_buffer c.loop.invariant.0 c.loop.out c.loop-test.array_long f.auto.out f.ensures)
 
-pub returns-then-t : goal.returns-then-t
-returns-then-t g c = handed_last c.loop-turns.invariant.0 c.show_some-t.ensures c.if-t.true _
+pub hand_over-requires : goal.hand_over-requires
+hand_over-requires g c = let f = c.fill-lines in
+    filled_next c.loop.invariant.0 c.loop.out c.loop-test.array_long f.auto.out f.ensures _ (omega arith)
 
-pub loop-turns-preserved : goal.loop-turns-preserved
-loop-turns-preserved g c = let i = c.loop-turns.invariant in
-    let h = c.show_some-t.ensures in
-    let o = c.if-t.false in
-    let p = handed_passes i.0 h o in (
-      handed_on i.0 h o (sym c.has_failed.ensures ∙ c.if-has_failed.false) (omega (arith, h.count, h.fits, i.1)),
+pub returns-in_err-handed : goal.returns-in_err-handed
+returns-in_err-handed g c = let i = c.loop.invariant.0 in
+    let f = c.fill-lines in
+    let p = err_from_is_err_and c.from_residual.result c.from_residual.ensures.1 in
+    rw (p.1, p.2) (handed_failed i c.in_err-handed.ensures (filled_next i c.loop.out c.loop-test.array_long f.auto.out f.ensures _ (omega arith)))
+
+pub loop-preserved : goal.loop-preserved
+loop-preserved g c = let i = c.loop.invariant in
+    let f = c.fill-lines in
+    let h = filled_handed i.0 c.loop.out c.loop-test.array_long f.auto.out f.ensures c.in_ok-handed.ensures in
+    let p = handed_passes i.0 h c.if-lines.false in (
+      handed_on i.0 h c.if-lines.false (omega (arith, h.count, h.fits, i.1)),
       omega (arith, h.count, h.fits, i.1),
       omega (arith, p.0, i.2),
       p.1,
     )
 
-pub returns : goal.returns
-returns g c = absurd (omega arith)
+pub returns-after-loop : goal.returns-after-loop
+returns-after-loop g c = absurd (omega arith)
+
+pub returns-then-lines : goal.returns-then-lines
+returns-then-lines g c = let i = c.loop.invariant.0 in
+    let f = c.fill-lines in
+    let h = filled_handed i c.loop.out c.loop-test.array_long f.auto.out f.ensures c.in_ok-handed.ensures in
+    handed_last i h c.if-lines.true

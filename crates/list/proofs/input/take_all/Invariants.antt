@@ -1,11 +1,10 @@
 -- What is read lies in the buffer; each read leaves less of it.
-use mathlib.Core.Path.{◌≡◌}
 use Prim.Native.Nat.{◌≤◌, ◌-◌}
 use lib.ListN.{length}
 use Rattle.list.proofs.input.take_all.Given as goal
 
 abbrev pub invariant-loop-len : goal.invariant-loop-len
-invariant-loop-len g l = (length l.buf ≡ length l.initial.buf) × (l.len ≤ length l.buf)
+invariant-loop-len g l = l.len ≤ length l.buf
 
 abbrev pub decreases-loop-len : goal.decreases-loop-len
-decreases-loop-len g l = length l.initial.buf - l.len
+decreases-loop-len g l = length l.buf - l.len
