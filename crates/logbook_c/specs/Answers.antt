@@ -51,15 +51,3 @@ Keeps f c l used l1 x =
     (x ≡ f (call_on logbook c (book_in l used)).answer) × (book_in l1 used ≡ (call_on logbook c (book_in l used)).book)
 
 -- ---- what the library's contract says, for C
-used_told : (used : ℕ) (r : Result Appended Refusal) → (appended_as used (appended_of r)).used ≡ used_after used r
-used_told used (Ok a) = refl
-used_told used (Err x) = refl
-
-pub append_told : (used : ℕ) (r : Result Appended Refusal) (x : LogbookAppended) (l : List ℕ) (k : Called) → x ≡ appended_as used (appended_of r) → called_of (appended_of r) l (used_after used r) ≡ k
-    → (x ≡ appended_as used k.answer) × (book_in l x.used ≡ k.book)
-append_told used r x l k e q =
-    (e ∙ ap (λ (c : Called). appended_as used c.answer) q, ap (λ (c : LogbookAppended). book_in l c.used) e ∙ ap (book_in l) (used_told used r) ∙ ap (λ (c : Called). c.book) q)
-
--- an answer f of a call that leaves the used length
-pub call_told : {A : Type 0} (f : Answer → A) (a : Answer) (x : A) (l : List ℕ) (used : ℕ) (k : Called) → x ≡ f a → called_of a l used ≡ k → (x ≡ f k.answer) × (book_in l used ≡ k.book)
-call_told f a x l used k e q = (e ∙ ap (λ (c : Called). f c.answer) q, ap (λ (c : Called). c.book) q)

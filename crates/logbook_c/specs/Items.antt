@@ -207,19 +207,3 @@ step_told l used r x i s e k p q =
       item = e ∙ item_shown (take used l) i k ∙ ap (λ (t : Stepped). item_in t.answer) (p ∙ q);
       reading = ap (λ (t : Stepped). t.reading) (p ∙ q);
     }
-
-taken_short : (used : ℕ) (l : List ℕ) → length (take used l) ≤ length l
-taken_short used l = omega (arith, length-take used l)
-
-pub lying_bounded : (used : ℕ) (l : List ℕ) (i : Result Item Code.Refusal) → Lying (take used l) i → Bounded (length l) i
-lying_bounded used l (Ok (Variant.Padding p)) k = tt
-lying_bounded used l (Ok (Variant.Deleted p a b)) k = omega (arith, k, taken_short used l)
-lying_bounded used l (Ok (Variant.Entry e)) k = record { whole = omega (arith, k.whole, taken_short used l); type = k.type }
-lying_bounded used l (Ok (Variant.Header e)) k = record { whole = omega (arith, k.whole, taken_short used l); type = k.type }
-lying_bounded used l (Ok (Variant.Assignment e n m)) k = (record { whole = omega (arith, k.0.whole, taken_short used l); type = k.0.type }, k.1)
-lying_bounded used l (Ok (Variant.End p)) k = tt
-lying_bounded used l (Err x) k = tt
-
-pub list_told : (r : Reading) (file out₀ out : List ℕ) (t : Listed) (x : LogbookListed) → Fills out₀ (fill_of file (length out₀) (reading_of r)) out t.len (reading_of t.reading) t.over
-    → x.length ≡ t.len → x.over ≡ flag_of t.over → x.reading ≡ t.reading → Lists (fill_of file (length out₀) (reading_of r)) out₀ out x
-list_told r file out₀ out t x f a b d = record { written = a ∙ f.0; last = b ∙ ap flag_of f.2; reading = ap reading_of d ∙ f.1; bytes = f.3 }

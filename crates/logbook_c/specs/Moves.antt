@@ -74,11 +74,6 @@ outcome_shown l p (Ok (Variant.Holds (Sized t e))) k = refl
 outcome_shown l p (Ok (Variant.Holds (Typed t e n q))) k = refl
 outcome_shown l p (Err x) k = refl
 
-pub outcome_bounded : (used : ℕ) (l : List ℕ) (a : Result Outcome Refusal) → LyingOutcome (take used l) a → BoundedOutcome (length l) a
-outcome_bounded used l (Ok (Variant.Item i)) k = lying_bounded used l (Ok i) k
-outcome_bounded used l (Ok (Variant.Holds h)) k = tt
-outcome_bounded used l (Err x) k = tt
-
 -- what is handed back of a reading that holds what four numbers can hold is that reading again
 pub slow_back : (s : Slow) (x : LogbookSlow) → SlowAs s x → Numbered (held_in s.held) → slow_of (slow_from x) ≡ slow_of s
 slow_back s x k n = ap₂ (λ (r : Reading) (h : Held). F.slow (reading_of r) (held_in h)) k.reading (numbers_back s.held _ k.numbers n)
