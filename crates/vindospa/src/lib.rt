@@ -1,9 +1,9 @@
 // Every public call of the library, and what it takes and answers. None has a `requires`.
 #![tactic(auto)]
 
-pub use appending::{Appended, Started, append, assign, start};
+pub use appending::{Appended, append, assign, start};
 pub use epoch::{Motion, Number, Point, Shifted, Triple, epoch_of, shift};
-pub use erasing::{Erased, Wiped, erase, wipe};
+pub use erasing::{erase, wipe};
 pub use fit::{Resolved, resolve};
 pub use listing::{Listed, fill};
 pub use reading::{Entry, Item, Reading, Step};
