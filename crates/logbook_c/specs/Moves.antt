@@ -21,7 +21,7 @@ use Rattle.slow.specs.declared.Move.{Move}
 use Rattle.logbook_c.specs.declared.LogbookItem.{LogbookItem}
 use Rattle.logbook_c.specs.declared.LogbookSlow.{LogbookSlow}
 use Rattle.logbook_c.specs.declared.LogbookMove.{LogbookMove}
-use Rattle.logbook_c.specs.Items.{bare_as, item_as, item_in, Bounded, item_shown, lying_bounded}
+use Rattle.logbook_c.specs.Items.{bare_as, item_as, item_in, Bounded, item_shown}
 
 -- ---- a slow reading that C hands in
 abbrev pub slow_from : LogbookSlow → Slow
