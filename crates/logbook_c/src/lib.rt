@@ -30,6 +30,7 @@ use record::{Refusal, Told};
 use register::{Place, Row};
 use slow::{Held, Outcome, Slow};
 
+// What C gets has no enum, so a refusal, a kind and a flag are numbers in it, as its header has them.
 #[repr(C)]
 #[derive(Clone, Copy, Default)]
 pub struct LogbookStarted {
@@ -466,11 +467,7 @@ pub extern "C" fn logbook_uri(len: usize, used: usize, row: Row) -> LogbookUri
 }
 
 #[unsafe(no_mangle)]
-pub extern "C" fn logbook_list(
-    reading: Reading,
-    file: &[u8],
-    out: &mut [u8],
-) -> LogbookListed
+pub extern "C" fn logbook_list(reading: Reading, file: &[u8], out: &mut [u8]) -> LogbookListed
     ensures { Lists (fill_of file.now (length out.old) (reading_of reading)) out.old out.new result }
 {
     let t = listing::fill(reading, file, out);
