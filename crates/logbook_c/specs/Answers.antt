@@ -1,12 +1,8 @@
 -- What C gets of a call's answer: the refusal's number and place, or 0 and the result.
-use Rattle.std.specs.Prelude.{Result, Ok, Err, ◌≡◌, refl, List, ℕ}
-use Rattle.std.proofs.Common.{ap, ◌∙◌}
+use Rattle.std.specs.Prelude.{◌≡◌, List, ℕ}
 use Rattle.format.specs.Records.{logbook}
 use Rattle.format.specs.Calls as Calls
 use Rattle.format.specs.Calls.{book_in, Call, call_on, Answer, appended, erased, wiped, denied, begun, not_begun, Called, called_of}
-use Rattle.appending.specs.Appendings.{appended_of, used_after}
-use Rattle.appending.specs.declared.Appended.{Appended}
-use Rattle.record.specs.declared.Refusal.{Refusal}
 use Rattle.logbook_c.specs.declared.LogbookStarted.{LogbookStarted}
 use Rattle.logbook_c.specs.declared.LogbookAppended.{LogbookAppended}
 use Rattle.logbook_c.specs.declared.LogbookErased.{LogbookErased}

@@ -1,6 +1,6 @@
 -- What C gets of a reading, an item, a URI's place and a listing.
 use Rattle.std.specs.Prelude.{Result, Ok, Err, ◌≡◌, refl, Bool, true, false, List, ℕ, ◌+◌, ◌-◌, ◌≤◌, length, take}
-use Rattle.std.proofs.Common.{ap, ◌∙◌, subst, arith, length-take}
+use Rattle.std.proofs.Common.{ap, ◌∙◌}
 use Rattle.format.specs.Register as G
 use Rattle.format.specs.Records as M
 use Rattle.format.specs.Records.{Refusal, logbook}
@@ -18,8 +18,7 @@ use Rattle.reading.specs.declared.Item.TheVariants as Variant
 use Rattle.record.specs.declared.Refusal as Code
 use Rattle.logbook_c.specs.declared.Kind.{Kind}
 use Rattle.logbook_c.specs.declared.Kind.TheVariants as Kinds
-use Rattle.listing.specs.Filling.{Filled, fill_of, Fills}
-use Rattle.listing.specs.declared.Listed.{Listed}
+use Rattle.listing.specs.Filling.{Filled}
 use Rattle.logbook_c.specs.declared.LogbookItem.{LogbookItem}
 use Rattle.logbook_c.specs.declared.LogbookStep.{LogbookStep}
 use Rattle.logbook_c.specs.declared.LogbookUri.{LogbookUri}

@@ -1,5 +1,5 @@
 -- What C gets of a slow reading and a move.
-use Rattle.std.specs.Prelude.{Result, Ok, Err, ◌≡◌, refl, List, ℕ, length, take}
+use Rattle.std.specs.Prelude.{Result, Ok, Err, ◌≡◌, refl, List, ℕ, take}
 use Rattle.std.proofs.Common.{ap, ap₂, ◌∙◌}
 use Rattle.format.specs.Records.{logbook}
 use Rattle.format.specs.Calls.{book_in}
