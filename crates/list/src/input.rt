@@ -8,13 +8,14 @@ use std::io::Read;
 pub fn take_all<F: Read>(from: &mut F, buf: &mut [u8]) -> io::Result<usize>
     ensures { IfOk result (λ len. len ≤ length buf.new) }
 {
-    let mut len = 0;
-    while len < buf.len() {
-        let more = from.read(&mut buf[len..])?;
+    let room = buf.len();
+    let mut rest = &mut buf[..];
+    while !rest.is_empty() {
+        let more = from.read(rest)?;
         if more == 0 {
             break;
         }
-        len += more;
+        rest = &mut rest[more..];
     }
-    Ok(len)
+    Ok(room - rest.len())
 }

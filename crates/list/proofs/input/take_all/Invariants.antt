@@ -1,10 +1,10 @@
--- What is read lies in the buffer; each read leaves less of it.
-use Prim.Native.Nat.{◌≤◌, ◌-◌}
+-- What is left is no longer than the buffer, and each read leaves less of it.
+use Prim.Native.Nat.{◌≤◌}
 use lib.ListN.{length}
 use Rattle.list.proofs.input.take_all.Given as goal
 
-abbrev pub invariant-loop-len : goal.invariant-loop-len
-invariant-loop-len g l = l.len ≤ length l.buf
+abbrev pub invariant-loop-from : goal.invariant-loop-from
+invariant-loop-from g l = length l.rest ≤ l.room
 
-abbrev pub decreases-loop-len : goal.decreases-loop-len
-decreases-loop-len g l = length l.buf - l.len
+abbrev pub decreases-loop-from : goal.decreases-loop-from
+decreases-loop-from g l = length l.rest
