@@ -21,7 +21,8 @@ pub fn put_decimal(out: &mut [u8], at: usize, v: usize) -> usize
     last + 1
 }
 
-// A lent buffer, and how many of its bytes are written.
+// A lent buffer, and how many of its bytes are written. The length stands beside it: with no heap, what is written and what is left
+// lie in one buffer, and the contracts speak of all of it.
 #[derive(Drop)]
 pub struct Line<'a> {
     pub out: &'a mut [u8],
@@ -29,7 +30,7 @@ pub struct Line<'a> {
 }
 
 impl<'a> Line<'a> {
-    // Adds the digits of `v`, and `mark` behind them.
+    // Adds the digits of `v`, and `mark` behind them. Tried: a method that stores the mark, for `text` too; its clauses are longer than both tails.
     pub fn number(&mut self, v: usize, mark: u8)
         requires { self.old.len + length (decimal v) < length self.old.out.now }
         ensures same_reference { self.new.out.ghost_name ≡ self.old.out.ghost_name }
