@@ -111,7 +111,7 @@ refused_as x = bare_as 6 x.number x.place
 
 abbrev pub item_as : Result Item Code.Refusal → LogbookItem
 item_as (Ok (Variant.Padding p)) = bare_as 0 0 p.0
-item_as (Ok (Variant.Deleted p k s)) = deleted_as p.0 k s
+item_as (Ok (Variant.Deleted p x)) = deleted_as p.0 x.size x.body
 item_as (Ok (Variant.Entry e)) = live_as 2 e
 item_as (Ok (Variant.Header e)) = live_as 3 e
 item_as (Ok (Variant.Assignment e n m)) = assignment_as e n m
@@ -125,7 +125,7 @@ pub record BoundedEntry (n : ℕ) (e : Entry) : Type 0 where
 
 abbrev pub Bounded : ℕ → Result Item Code.Refusal → Type 0
 Bounded n (Ok (Variant.Padding p)) = Unit {0}
-Bounded n (Ok (Variant.Deleted p k s)) = p.0 + k + s ≤ n
+Bounded n (Ok (Variant.Deleted p x)) = p.0 + x.size + x.body ≤ n
 Bounded n (Ok (Variant.Entry e)) = BoundedEntry n e
 Bounded n (Ok (Variant.Header e)) = BoundedEntry n e
 Bounded n (Ok (Variant.Assignment e k m)) = BoundedEntry n e × (e.live.kind + m ≤ e.live.body)
@@ -192,7 +192,7 @@ pub record Lists (f : Filled) (out₀ out : List ℕ) (x : LogbookListed) : Type
 -- an item that lies in the log is what the definition shows
 pub item_shown : (l : List ℕ) (i : Result Item Code.Refusal) → Lying l i → item_as i ≡ item_in (shown_of l i)
 item_shown l (Ok (Variant.Padding p)) k = refl
-item_shown l (Ok (Variant.Deleted p a b)) k = refl
+item_shown l (Ok (Variant.Deleted p x)) k = refl
 item_shown l (Ok (Variant.Entry e)) k = rw (data_length l e.place.0 e.live k)
 item_shown l (Ok (Variant.Header e)) k = rw (data_length l e.place.0 e.live k)
 item_shown l (Ok (Variant.Assignment e n m)) k = rw (data_length l e.place.0 e.live k.0)

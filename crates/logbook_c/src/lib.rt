@@ -26,7 +26,7 @@ use appending::Appended;
 use epoch::{Motion, Point, Shifted, Triple};
 use fit::Resolved;
 use reading::{Entry, Item, Reading};
-use record::{Refusal, Told};
+use record::{Extent, Refusal, Told};
 use register::{Place, Row};
 use slow::{Held, Outcome, Slow};
 
@@ -296,14 +296,14 @@ fn bare_item(kind: Kind, place: usize) -> LogbookItem
     }
 }
 
-fn deleted_item(buf: &[u8], place: usize, size: usize, body: usize) -> LogbookItem
-    requires { place + size + body ≤ length buf.now }
-    ensures { result ≡ deleted_as place size body }
+fn deleted_item(buf: &[u8], place: usize, extent: Extent) -> LogbookItem
+    requires { place + extent.size + extent.body ≤ length buf.now }
+    ensures { result ≡ deleted_as place extent.size extent.body }
 {
     LogbookItem {
-        type_place: place + size,
-        data_place: place + size,
-        data_length: body,
+        type_place: place + extent.size,
+        data_place: place + extent.size,
+        data_length: extent.body,
         ..bare_item(Kind::Deleted, place)
     }
 }
@@ -345,7 +345,7 @@ fn item_as(buf: &[u8], item: Result<Item, Refusal>) -> LogbookItem
 {
     match item {
         Ok(Item::Padding(place)) => bare_item(Kind::Padding, place.0),
-        Ok(Item::Deleted { place, size, body }) => deleted_item(buf, place.0, size, body),
+        Ok(Item::Deleted { place, extent }) => deleted_item(buf, place.0, extent),
         Ok(Item::Entry(e)) => live_item(buf, Kind::Entry, e),
         Ok(Item::Header(e)) => live_item(buf, Kind::Header, e),
         Ok(Item::Assignment { entry, number, gap }) => assignment_item(buf, entry, number, gap),
