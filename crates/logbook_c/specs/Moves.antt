@@ -1,5 +1,5 @@
 -- What C gets of a slow reading and a move.
-use Rattle.std.specs.Prelude.{Result, Ok, Err, ◌≡◌, refl, List, ℕ, take}
+use Rattle.std.specs.Prelude.{Option, Result, Ok, Err, ◌≡◌, refl, List, ℕ, take}
 use Rattle.std.proofs.Common.{ap, ap₂, ◌∙◌}
 use Rattle.format.specs.Records.{logbook}
 use Rattle.format.specs.Calls.{book_in}
@@ -13,7 +13,7 @@ use Rattle.reading.specs.Readings.{reading_of}
 use Rattle.reading.specs.declared.Reading.{Reading}
 use Rattle.slow.specs.declared.Slow.{Slow}
 use Rattle.slow.specs.declared.Held.{Held}
-use Rattle.slow.specs.declared.Held.TheVariants.{Nothing, Sized, Typed}
+use Rattle.slow.specs.declared.Held.TheVariants.{Sized, Typed}
 use Rattle.record.specs.declared.Refusal.{Refusal}
 use Rattle.slow.specs.declared.Outcome.{Outcome}
 use Rattle.slow.specs.declared.Outcome.TheVariants as Variant
@@ -39,7 +39,6 @@ pub record SlowAs (s : Slow) (x : LogbookSlow) : Type 0 where
 -- ---- what a move at p shows: an item, or kind 7 for a size and kind 8 for a type that is now held
 abbrev pub outcome_as : ℕ → Result Outcome Refusal → LogbookItem
 outcome_as p (Ok (Variant.Item i)) = item_as (Ok i)
-outcome_as p (Ok (Variant.Holds Nothing)) = bare_as 7 0 p
 outcome_as p (Ok (Variant.Holds (Sized t e))) = bare_as 7 0 p
 outcome_as p (Ok (Variant.Holds (Typed t e n q))) = bare_as 8 0 p
 outcome_as p (Err x) = item_as (Err x)
@@ -69,14 +68,13 @@ pub record MovesOn (l : List ℕ) (used : ℕ) (s : LogbookSlow) (x : LogbookMov
 -- what lies in the log is what the definition shows
 pub outcome_shown : (l : List ℕ) (p : ℕ) (a : Result Outcome Refusal) → LyingOutcome l a → outcome_as p a ≡ item_told p (outcome_of l a)
 outcome_shown l p (Ok (Variant.Item i)) k = item_shown l (Ok i) k
-outcome_shown l p (Ok (Variant.Holds Nothing)) k = refl
 outcome_shown l p (Ok (Variant.Holds (Sized t e))) k = refl
 outcome_shown l p (Ok (Variant.Holds (Typed t e n q))) k = refl
 outcome_shown l p (Err x) k = refl
 
 -- what is handed back of a reading that holds what four numbers can hold is that reading again
 pub slow_back : (s : Slow) (x : LogbookSlow) → SlowAs s x → Numbered (held_in s.held) → slow_of (slow_from x) ≡ slow_of s
-slow_back s x k n = ap₂ (λ (r : Reading) (h : Held). F.slow (reading_of r) (held_in h)) k.reading (numbers_back s.held _ k.numbers n)
+slow_back s x k n = ap₂ (λ (r : Reading) (h : Option Held). F.slow (reading_of r) (held_in h)) k.reading (numbers_back s.held _ k.numbers n)
 
 pub move_told : (l : List ℕ) (used : ℕ) (s : LogbookSlow) (x : LogbookMove) (m : Move) → Library.MovesOn l used (slow_of (slow_from s)) m
     → x.item ≡ outcome_as s.reading.position.0 m.outcome → SlowAs m.slow x.slow → MovesOn l used s x

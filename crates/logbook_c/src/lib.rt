@@ -391,7 +391,7 @@ impl From<Slow> for LogbookSlow {
     ghost from_gives = { SlowAs };
 
     fn from(s: Slow) -> LogbookSlow {
-        let (type_place, end, number, data_place) = s.held.numbers();
+        let (type_place, end, number, data_place) = Held::numbers(s.held);
         LogbookSlow {
             reading: s.reading,
             type_place: type_place.0,
@@ -416,8 +416,8 @@ fn outcome_as(buf: &[u8], position: usize, outcome: Result<Outcome, Refusal>) ->
 {
     match outcome {
         Ok(Outcome::Item(item)) => item_as(buf, Ok(item)),
+        Ok(Outcome::Holds(Held::Sized { .. })) => bare_item(Kind::SizeHeld, position),
         Ok(Outcome::Holds(Held::Typed { .. })) => bare_item(Kind::TypeHeld, position),
-        Ok(Outcome::Holds(_)) => bare_item(Kind::SizeHeld, position),
         Err(x) => item_as(buf, Err(x)),
     }
 }
