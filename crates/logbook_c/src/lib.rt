@@ -415,7 +415,7 @@ fn outcome_as(buf: &[u8], position: usize, outcome: Result<Outcome, Refusal>) ->
     ensures { result ≡ outcome_as position outcome }
 {
     match outcome {
-        Ok(Outcome::Item(item)) => item_as(buf, Ok(item)),
+        Ok(Outcome::Done(item)) => item_as(buf, Ok(item)),
         Ok(Outcome::Holds(Held::Sized { .. })) => bare_item(Kind::SizeHeld, position),
         Ok(Outcome::Holds(Held::Typed { .. })) => bare_item(Kind::TypeHeld, position),
         Err(x) => item_as(buf, Err(x)),
