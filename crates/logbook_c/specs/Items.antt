@@ -19,6 +19,7 @@ use Rattle.record.specs.declared.Refusal as Code
 use Rattle.logbook_c.specs.declared.Kind.{Kind}
 use Rattle.logbook_c.specs.declared.Kind.TheVariants as Kinds
 use Rattle.listing.specs.Filling.{Filled}
+use Rattle.listing.specs.declared.Listed.{Listed}
 use Rattle.logbook_c.specs.declared.LogbookItem.{LogbookItem}
 use Rattle.logbook_c.specs.declared.LogbookStep.{LogbookStep}
 use Rattle.logbook_c.specs.declared.LogbookUri.{LogbookUri}
@@ -181,6 +182,9 @@ uri_as (no_uri x) = record { refusal = x.number; implied = 0; place = 0; length 
 abbrev pub flag_of : Bool → ℕ
 flag_of true = 1
 flag_of false = 0
+
+abbrev pub listed_as : Listed → LogbookListed
+listed_as t = record { length = t.len; over = flag_of t.over; reading = t.reading }
 
 pub record Lists (f : Filled) (out₀ out : List ℕ) (x : LogbookListed) : Type 0 where
   pub written : x.length ≡ length f.text

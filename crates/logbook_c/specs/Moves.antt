@@ -1,5 +1,5 @@
 -- What C gets of a slow reading and a move.
-use Rattle.std.specs.Prelude.{Result, Ok, Err, ◌≡◌, refl, List, ℕ, take}
+use Rattle.std.specs.Prelude.{Option, Result, Ok, Err, ◌≡◌, refl, List, ℕ, take}
 use Rattle.std.proofs.Common.{ap, ap₂, ◌∙◌}
 use Rattle.format.specs.Records.{logbook}
 use Rattle.format.specs.Calls.{book_in}
@@ -11,12 +11,13 @@ use Rattle.slow.specs.Holding.{held_in, held_back}
 use Rattle.slow.specs.Numbers.{numbers_of, numbers_back, Numbered, made_numbered, moved_numbered}
 use Rattle.reading.specs.Readings.{reading_of}
 use Rattle.reading.specs.declared.Reading.{Reading}
+use Rattle.reading.specs.declared.Item.{Item}
 use Rattle.slow.specs.declared.Slow.{Slow}
 use Rattle.slow.specs.declared.Held.{Held}
-use Rattle.slow.specs.declared.Held.TheVariants.{Nothing, Sized, Typed}
+use Rattle.slow.specs.declared.Held.TheVariants.{Sized, Typed}
 use Rattle.record.specs.declared.Refusal.{Refusal}
-use Rattle.slow.specs.declared.Outcome.{Outcome}
-use Rattle.slow.specs.declared.Outcome.TheVariants as Variant
+use Rattle.slow.specs.declared.Taken.{Taken}
+use Rattle.slow.specs.declared.Taken.TheVariants as Variant
 use Rattle.slow.specs.declared.Move.{Move}
 use Rattle.logbook_c.specs.declared.LogbookItem.{LogbookItem}
 use Rattle.logbook_c.specs.declared.LogbookSlow.{LogbookSlow}
@@ -37,9 +38,8 @@ pub record SlowAs (s : Slow) (x : LogbookSlow) : Type 0 where
   pub numbers : (record { 0 = x.type_place }, record { 0 = x.end }, x.number, record { 0 = x.data_place }) ≡ numbers_of s.held
 
 -- ---- what a move at p shows: an item, or kind 7 for a size and kind 8 for a type that is now held
-abbrev pub outcome_as : ℕ → Result Outcome Refusal → LogbookItem
-outcome_as p (Ok (Variant.Item i)) = item_as (Ok i)
-outcome_as p (Ok (Variant.Holds Nothing)) = bare_as 7 0 p
+abbrev pub outcome_as : ℕ → Result (Taken Item) Refusal → LogbookItem
+outcome_as p (Ok (Variant.Done i)) = item_as (Ok i)
 outcome_as p (Ok (Variant.Holds (Sized t e))) = bare_as 7 0 p
 outcome_as p (Ok (Variant.Holds (Typed t e n q))) = bare_as 8 0 p
 outcome_as p (Err x) = item_as (Err x)
@@ -55,8 +55,8 @@ item_told p (tells x) = item_in x
 item_told p (holds h) = held_told p h
 
 -- it lies within n bytes
-abbrev pub BoundedOutcome : ℕ → Result Outcome Refusal → Type 0
-BoundedOutcome n (Ok (Variant.Item i)) = Bounded n (Ok i)
+abbrev pub BoundedOutcome : ℕ → Result (Taken Item) Refusal → Type 0
+BoundedOutcome n (Ok (Variant.Done i)) = Bounded n (Ok i)
 BoundedOutcome n (Ok (Variant.Holds h)) = Unit {0}
 BoundedOutcome n (Err x) = Unit {0}
 
@@ -67,16 +67,15 @@ pub record MovesOn (l : List ℕ) (used : ℕ) (s : LogbookSlow) (x : LogbookMov
 
 -- ---- laws
 -- what lies in the log is what the definition shows
-pub outcome_shown : (l : List ℕ) (p : ℕ) (a : Result Outcome Refusal) → LyingOutcome l a → outcome_as p a ≡ item_told p (outcome_of l a)
-outcome_shown l p (Ok (Variant.Item i)) k = item_shown l (Ok i) k
-outcome_shown l p (Ok (Variant.Holds Nothing)) k = refl
+pub outcome_shown : (l : List ℕ) (p : ℕ) (a : Result (Taken Item) Refusal) → LyingOutcome l a → outcome_as p a ≡ item_told p (outcome_of l a)
+outcome_shown l p (Ok (Variant.Done i)) k = item_shown l (Ok i) k
 outcome_shown l p (Ok (Variant.Holds (Sized t e))) k = refl
 outcome_shown l p (Ok (Variant.Holds (Typed t e n q))) k = refl
 outcome_shown l p (Err x) k = refl
 
 -- what is handed back of a reading that holds what four numbers can hold is that reading again
 pub slow_back : (s : Slow) (x : LogbookSlow) → SlowAs s x → Numbered (held_in s.held) → slow_of (slow_from x) ≡ slow_of s
-slow_back s x k n = ap₂ (λ (r : Reading) (h : Held). F.slow (reading_of r) (held_in h)) k.reading (numbers_back s.held _ k.numbers n)
+slow_back s x k n = ap₂ (λ (r : Reading) (h : Option Held). F.slow (reading_of r) (held_in h)) k.reading (numbers_back s.held _ k.numbers n)
 
 pub move_told : (l : List ℕ) (used : ℕ) (s : LogbookSlow) (x : LogbookMove) (m : Move) → Library.MovesOn l used (slow_of (slow_from s)) m
     → x.item ≡ outcome_as s.reading.position.0 m.outcome → SlowAs m.slow x.slow → MovesOn l used s x

@@ -19,12 +19,13 @@ ghost use Rattle.epoch.specs.Answers.{triple_of};
 ghost use Rattle.logbook_c.specs.Answers.{started_as, appended_as, erased_as, wiped_as, Starts, Appends, Keeps};
 ghost use Rattle.logbook_c.specs.Shifts.{shifted_from, shifted_as};
 ghost use Rattle.logbook_c.specs.Items.{kind_number, bare_as, deleted_as, live_as, assignment_as, item_as};
-ghost use Rattle.logbook_c.specs.Items.{BoundedEntry, Bounded, Steps, uri_as, flag_of, Lists};
+ghost use Rattle.logbook_c.specs.Items.{BoundedEntry, Bounded, Steps, uri_as, listed_as, Lists};
 ghost use Rattle.logbook_c.specs.Moves.{slow_from, SlowAs, outcome_as, BoundedOutcome, MovesOn};
 
 use appending::Appended;
 use epoch::{Motion, Point, Shifted, Triple};
 use fit::Resolved;
+use listing::Listed;
 use reading::{Entry, Item, Reading};
 use record::{Extent, Refusal, Told};
 use register::{Place, Row};
@@ -145,6 +146,7 @@ pub struct LogbookShifted {
     pub motion: Motion,
 }
 
+// Each of these structs has its own fields, as C's header names them, so each is built by itself.
 impl From<Result<usize, Refusal>> for LogbookStarted {
     ghost from_gives = { λ r x. x ≡ started_as (started_of r) };
 
@@ -296,6 +298,7 @@ fn bare_item(kind: Kind, place: usize) -> LogbookItem
     }
 }
 
+// `buf` stands here for the contract: what is shown lies in it.
 fn deleted_item(buf: &[u8], place: usize, extent: Extent) -> LogbookItem
     requires { place + extent.size + extent.body ≤ length buf.now }
     ensures { result ≡ deleted_as place extent.size extent.body }
@@ -391,7 +394,7 @@ impl From<Slow> for LogbookSlow {
     ghost from_gives = { SlowAs };
 
     fn from(s: Slow) -> LogbookSlow {
-        let (type_place, end, number, data_place) = s.held.numbers();
+        let (type_place, end, number, data_place) = Held::numbers(s.held);
         LogbookSlow {
             reading: s.reading,
             type_place: type_place.0,
@@ -415,9 +418,9 @@ fn outcome_as(buf: &[u8], position: usize, outcome: Result<Outcome, Refusal>) ->
     ensures { result ≡ outcome_as position outcome }
 {
     match outcome {
-        Ok(Outcome::Item(item)) => item_as(buf, Ok(item)),
+        Ok(Outcome::Done(item)) => item_as(buf, Ok(item)),
+        Ok(Outcome::Holds(Held::Sized { .. })) => bare_item(Kind::SizeHeld, position),
         Ok(Outcome::Holds(Held::Typed { .. })) => bare_item(Kind::TypeHeld, position),
-        Ok(Outcome::Holds(_)) => bare_item(Kind::SizeHeld, position),
         Err(x) => item_as(buf, Err(x)),
     }
 }
@@ -466,16 +469,23 @@ pub extern "C" fn logbook_uri(len: usize, used: usize, row: Row) -> LogbookUri
     LogbookUri::from(fit::resolve(len, used, row))
 }
 
+impl From<Listed> for LogbookListed {
+    ghost from_gives = { λ t x. x ≡ listed_as t };
+
+    fn from(t: Listed) -> LogbookListed {
+        LogbookListed {
+            length: t.len,
+            over: usize::from(t.over),
+            reading: t.reading,
+        }
+    }
+}
+
 #[unsafe(no_mangle)]
 pub extern "C" fn logbook_list(reading: Reading, file: &[u8], out: &mut [u8]) -> LogbookListed
     ensures { Lists (fill_of file.now (length out.old) (reading_of reading)) out.old out.new result }
 {
-    let t = listing::fill(reading, file, out);
-    LogbookListed {
-        length: t.len,
-        over: usize::from(t.over),
-        reading: t.reading,
-    }
+    LogbookListed::from(listing::fill(reading, file, out))
 }
 
 impl From<Result<Shifted, Refusal>> for LogbookShifted {
@@ -484,12 +494,11 @@ impl From<Result<Shifted, Refusal>> for LogbookShifted {
     fn from(r: Result<Shifted, Refusal>) -> LogbookShifted {
         match r {
             Ok(s) => LogbookShifted {
-                refusal: 0,
-                place: 0,
                 epoch: s.epoch,
                 position: s.position,
                 point: s.point,
                 motion: s.motion,
+                ..LogbookShifted::default()
             },
             Err(x) => {
                 let t = Told::from(x);

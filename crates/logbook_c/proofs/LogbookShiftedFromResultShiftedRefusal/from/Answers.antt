@@ -5,7 +5,7 @@ use Rattle.logbook_c.specs.Shifts.{refused_shift, shifted_from}
 use Rattle.logbook_c.proofs.LogbookShiftedFromResultShiftedRefusal.from.Goals as goal
 
 pub returns-in-Err : goal.returns-in-Err
-returns-in-Err c = let h = c.default.ensures in
+returns-in-Err c = let h = c.default-in-Err.ensures in
     let t = c.from-t.result in
     (λ i. record {
       refusal = t.number;
