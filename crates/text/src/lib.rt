@@ -6,7 +6,8 @@ ghost use Rattle.format.specs.Bytes.{stored};
 ghost use Rattle.format.specs.Listing.{decimal};
 ghost use Rattle.text.specs.Numerals.{Laid};
 
-// Stores the digits of `v` from `at` on. Answers the place behind them. A recursion, as the last digit is the first that is known.
+// Stores the digits of `v` from `at` on. Answers the place behind them: the contract speaks of the whole buffer. A recursion, as the
+// last digit is the first that is known.
 #[tactic(auto, using(crate::specs::Numerals::numeral_steps))]
 pub fn put_decimal(out: &mut [u8], at: usize, v: usize) -> usize
     requires { at + length (decimal v) ≤ length out.old }
