@@ -7,6 +7,6 @@ pub use erasing::{erase, wipe};
 pub use fit::{Resolved, resolve};
 pub use listing::{Listed, fill};
 pub use reading::{Entry, Item, Reading, Step};
-pub use record::{Live, Refusal, Told, tell};
+pub use record::{Extent, Live, Refusal, Told, tell};
 pub use register::{Declared, EntryNumber, Place, Register, Row, uri_of};
-pub use slow::{Held, Move, Outcome, Slow};
+pub use slow::{Held, Move, Outcome, Slow, Taken};
