@@ -1,10 +1,12 @@
 -- What of a file's listing is handed to standard output: part by part, counted in bytes.
-use Rattle.std.specs.Prelude.{◌≡◌, Bool, false, cond, List, [], ◌∷◌, ℕ, ◌+◌, ◌≤◌, ◌<◌, length, take, drop, leb, Option, Some, None, Result, Ok, Err}
+use Rattle.std.specs.Prelude.{◌≡◌, Bool, false, cond, List, [], ◌∷◌, ℕ, ◌+◌, ◌≤◌, ◌<◌, length, take, drop, leb, Result, Ok, Err}
 use Rattle.format.specs.Figures.{file_limit}
 use Rattle.format.specs.Records.{refusal}
 use Rattle.format.specs.Reading.{Reading}
 use Rattle.format.specs.Listing.{refused_line, listing_on, listing}
 use Rattle.listing.specs.Filling.{Filled}
+use Rattle.list.specs.declared.input.Taken.{Taken}
+use Rattle.list.specs.declared.input.Unread.{Unread}
 use Rattle.list.specs.declared.output.Handed.{Handed}
 use Rattle.list.specs.declared.output.Failed.{Failed}
 
@@ -29,9 +31,9 @@ pub record Shows (file : List ℕ) (n : ℕ) (failed : Bool) : Type 0 where
   pub whole : failed ≡ false → n ≡ length (listing file)
 
 -- the file was read, to the front of the buffer, and is shown, or couldn't be read and nothing is handed over
-pub record Lists (read : Option ℕ) (buffer : List ℕ) (n : ℕ) (failed : Bool) : Type 0 where
-  pub shown : (k : ℕ) → read ≡ Some k → Shows (take k buffer) n failed
-  pub silent : read ≡ None → n ≡ 0
+pub record Lists (read : Result Taken Unread) (buffer : List ℕ) (n : ℕ) (failed : Bool) : Type 0 where
+  pub shown : (t : Taken) → read ≡ Ok t → Shows (take t.len buffer) n failed
+  pub silent : (x : Unread) → read ≡ Err x → n ≡ 0
 
 -- ---- buffer by buffer
 

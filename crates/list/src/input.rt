@@ -1,21 +1,51 @@
 // A file's bytes, read into a buffer.
-ghost use Rattle.std.specs.Prelude.{◌≤◌, length, IfOk};
+ghost use Rattle.std.specs.Prelude.{◌≡◌, ◌≤◌, length, IfOk};
 
 use std::io;
 use std::io::Read;
 
-// Reads until the buffer is full or the input is over. Answers how many bytes were read.
-pub fn take_all<F: Read>(from: &mut F, buf: &mut [u8]) -> io::Result<usize>
-    ensures { IfOk result (λ len. len ≤ length buf.new) }
+// How many bytes were read to the front of a buffer. The field is private, as that of `Unread` is, so that neither is made up.
+#[derive(Clone, Copy)]
+pub struct Taken {
+    len: usize,
+}
+
+// Why a file couldn't be read.
+#[derive(Drop)]
+pub struct Unread {
+    why: io::Error,
+}
+
+impl Taken {
+    pub fn len(self) -> usize
+        ensures { result ≡ self.len }
+    {
+        self.len
+    }
+}
+
+impl Unread {
+    pub fn why(&self) -> &io::Error
+        ensures { result.now ≡ self.now.why }
+    {
+        &self.why
+    }
+}
+
+// Reads until the buffer is full or the input is over.
+pub fn take_all<F: Read>(from: &mut F, buf: &mut [u8]) -> Result<Taken, Unread>
+    ensures { IfOk result (λ taken. taken.len ≤ length buf.new) }
 {
     let room = buf.len();
     let mut rest = &mut buf[..];
     while !rest.is_empty() {
-        let more = from.read(rest)?;
-        if more == 0 {
-            break;
+        match from.read(rest) {
+            Ok(0) => break,
+            Ok(more) => rest = &mut rest[more..],
+            Err(why) => return Err(Unread { why }),
         }
-        rest = &mut rest[more..];
     }
-    Ok(room - rest.len())
+    Ok(Taken {
+        len: room - rest.len(),
+    })
 }

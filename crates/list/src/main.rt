@@ -7,6 +7,7 @@ mod output;
 ghost use Rattle.std.specs.Prelude.{is_err};
 ghost use Rattle.list.specs.Handing.{Shows, Lists, count_of};
 
+use input::{Taken, Unread};
 use output::{Failed, Handed};
 use reading::Reading;
 use std::env::{Env, FillError};
@@ -38,10 +39,10 @@ fn show<R: Print + Eprint>(rt: &R, file: &[u8]) -> Result<Handed, Failed>
     Ok(handed)
 }
 
-// What came of listing a file: how many bytes of it were read, none where a read failed, and what of the listing was handed over.
+// What came of listing a file: what was read of it, and what of the listing was handed over.
 #[derive(Drop)]
 struct Outcome {
-    read: Option<usize>,
+    read: Result<Taken, Unread>,
     handed: Result<Handed, Failed>,
 }
 
@@ -55,14 +56,14 @@ fn list<R: Print + Eprint, F: Read>(
     ensures { Lists result.read file.new (count_of result.handed) (is_err result.handed) }
 {
     match input::take_all(from, file) {
-        Ok(len) => Outcome {
-            read: Some(len),
-            handed: show(rt, &file[..len]),
+        Ok(taken) => Outcome {
+            read: Ok(taken),
+            handed: show(rt, &file[..taken.len()]),
         },
-        Err(why) => {
-            output::fail(rt, name, &why);
+        Err(x) => {
+            output::fail(rt, name, x.why());
             Outcome {
-                read: None,
+                read: Err(x),
                 handed: Ok(Handed::nothing()),
             }
         }
