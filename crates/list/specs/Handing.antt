@@ -30,8 +30,9 @@ pub record Shows (file : List ℕ) (n : ℕ) (failed : Bool) : Type 0 where
   pub begun : n ≤ length (listing file)
   pub whole : failed ≡ false → n ≡ length (listing file)
 
--- the file was read, to the front of the buffer, and is shown, or couldn't be read and nothing is handed over
+-- the file was read, to the front of the whole buffer, and is shown, or couldn't be read and nothing is handed over
 pub record Lists (read : Result Taken Unread) (buffer : List ℕ) (n : ℕ) (failed : Bool) : Type 0 where
+  pub roomy : (t : Taken) → read ≡ Ok t → t.room ≡ length buffer
   pub shown : (t : Taken) → read ≡ Ok t → Shows (take t.len buffer) n failed
   pub silent : (x : Unread) → read ≡ Err x → n ≡ 0
 

@@ -4,10 +4,12 @@ ghost use Rattle.std.specs.Prelude.{◌≡◌, ◌≤◌, length, IfOk};
 use std::io;
 use std::io::Read;
 
-// How many bytes were read to the front of a buffer. The field is private, as that of `Unread` is, so that neither is made up.
+// How many bytes were read to the front of a buffer, and how many it holds: a part of the buffer isn't all of it. The fields are private,
+// as that of `Unread` is, so that neither is made up.
 #[derive(Clone, Copy)]
 pub struct Taken {
     len: usize,
+    room: usize,
 }
 
 // Why a file couldn't be read.
@@ -34,7 +36,8 @@ impl Unread {
 
 // Reads until the buffer is full or the input is over.
 pub fn take_all<F: Read>(from: &mut F, buf: &mut [u8]) -> Result<Taken, Unread>
-    ensures { IfOk result (λ taken. taken.len ≤ length buf.new) }
+    ensures within { IfOk result (λ taken. taken.len ≤ length buf.new) }
+    ensures room { IfOk result (λ taken. taken.room ≡ length buf.new) }
 {
     let room = buf.len();
     let mut rest = &mut buf[..];
@@ -47,5 +50,6 @@ pub fn take_all<F: Read>(from: &mut F, buf: &mut [u8]) -> Result<Taken, Unread>
     }
     Ok(Taken {
         len: room - rest.len(),
+        room,
     })
 }

@@ -30,7 +30,8 @@ fn show<R: Print + Eprint>(rt: &R, file: &[u8]) -> Result<Handed, Failed>
     let mut reading = Reading::fresh();
     for _ in 0..FILE_ROOM {
         let lines = listing::fill(reading, file, &mut out);
-        handed = handed.hand_over(rt, file, &out[..lines.len])?;
+        let len = lines.len;
+        handed = handed.hand_over(rt, file, &out[..len])?;
         if lines.over {
             break;
         }

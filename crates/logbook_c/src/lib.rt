@@ -505,6 +505,7 @@ impl From<Result<Shifted, Refusal>> for LogbookShifted {
                 LogbookShifted {
                     refusal: t.number,
                     place: t.place.0,
+                    epoch: 0,
                     ..LogbookShifted::default()
                 }
             }

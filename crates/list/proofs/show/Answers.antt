@@ -25,13 +25,13 @@ slice_bounds-hand_over-end g c = let f = c.fill-lines in
 
 pub hand_over-requires : goal.hand_over-requires
 hand_over-requires g c = let f = c.fill-lines in
-    filled_next c.loop.invariant.0 c.loop.out c.loop-test.array_long f.auto.out f.ensures _ (omega arith)
+    filled_next c.loop.invariant.0 c.loop.out c.loop-test.array_long f.auto.out f.ensures f.result.len (omega arith)
 
 pub returns-in_err-handed : goal.returns-in_err-handed
 returns-in_err-handed g c = let i = c.loop.invariant.0 in
     let f = c.fill-lines in
     let p = err_from_is_err_and c.from_residual.result c.from_residual.ensures.1 in
-    rw (p.1, p.2) (handed_failed i c.in_err-handed.ensures (filled_next i c.loop.out c.loop-test.array_long f.auto.out f.ensures _ (omega arith)))
+    rw (p.1, p.2) (handed_failed i c.in_err-handed.ensures (filled_next i c.loop.out c.loop-test.array_long f.auto.out f.ensures f.result.len (omega arith)))
 
 pub loop-preserved : goal.loop-preserved
 loop-preserved g c = let i = c.loop.invariant in

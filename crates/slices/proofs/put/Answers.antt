@@ -1,12 +1,10 @@
--- A write to a part is `stored` at its place.
-use Rattle.std.proofs.Common.{◌≡◌, ◌+◌, ◌-◌, arith, length}
-use Rattle.std.proofs.Math.Seq.{drop-drop}
-use Rattle.format.specs.Bytes.{stored}
+use Rattle.std.proofs.Common.{sym}
+use Rattle.format.proofs.Laws.Bytes.{stored_none}
+use Rattle.slices.specs.Slices.{put_at}
 use Rattle.slices.proofs.put.Goals as goal
 
-pub returns : goal.returns
-unfolding stored
-returns c =
-    let p = c.args.place in
-    let n : p + length c.args.s.now - p ≡ length c.args.s.now = omega arith in
-    rw (n, c.copy_from_slice.ensures.after, drop-drop)
+pub loop-i-init : goal.loop-i-init
+loop-i-init c = sym (stored_none _ _)
+
+pub loop-i-preserved : goal.loop-i-preserved
+loop-i-preserved c = rw c.loop-i.invariant (put_at c.args.d.now c.args.s.now c.args.place c.loop-i.i c.requires c.loop-i-test.true)

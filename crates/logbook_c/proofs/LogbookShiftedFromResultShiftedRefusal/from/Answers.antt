@@ -10,7 +10,7 @@ returns-in-Err c = let h = c.default-in-Err.ensures in
     (λ i. record {
       refusal = t.number;
       place = t.place.0;
-      epoch = h.1.1.0 i;
+      epoch = 0;
       position = record { x = h.1.1.1.0.0 i; y = h.1.1.1.0.1.0 i; z = h.1.1.1.0.1.1 i };
       point = record { x = (h.1.1.1.1.0.0 ∙ zero_double) i; y = (h.1.1.1.1.0.1.0 ∙ zero_double) i; z = (h.1.1.1.1.0.1.1 ∙ zero_double) i };
       motion = record { x = (h.1.1.1.1.1.0 ∙ zero_double) i; y = (h.1.1.1.1.1.1.0 ∙ zero_double) i; z = (h.1.1.1.1.1.1.1 ∙ zero_double) i };
