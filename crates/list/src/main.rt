@@ -30,6 +30,7 @@ fn show<R: Print + Eprint>(rt: &R, file: &[u8]) -> Result<Handed, Failed>
     let mut reading = Reading::fresh();
     for _ in 0..FILE_ROOM {
         let lines = listing::fill(reading, file, &mut out);
+        // A local, so that an edit can try another count.
         let len = lines.len;
         handed = handed.hand_over(rt, file, &out[..len])?;
         if lines.over {

@@ -505,6 +505,7 @@ impl From<Result<Shifted, Refusal>> for LogbookShifted {
                 LogbookShifted {
                     refusal: t.number,
                     place: t.place.0,
+                    // Beside the other zeros, so that an edit can try it.
                     epoch: 0,
                     ..LogbookShifted::default()
                 }
